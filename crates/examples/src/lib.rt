@@ -1,0 +1,1 @@
+// The starred examples of document 01, as statements about the definitions; no code.

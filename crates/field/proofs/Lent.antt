@@ -1,0 +1,78 @@
+-- What holds of the slices lent to sum and product where no refusal applies, and what they then hold.
+use mathlib.Core.Path.{_≡_, refl, sym, _∙_, ap}
+use mathlib.Core.Bool.{Bool, true, false, not}
+use mathlib.Core.List.{List, [], _∷_}
+use Prim.Native.Nat.{ℕ, _+_, _^_, _<_, _≤_}
+use native.Mathlib.Omega.{arith}
+use borrow.Author.Tests.{eqb-true, leb-true, not-false}
+use lib.Dec.{eqb, leb}
+use lib.ListN.{length, getD}
+use Rattle.lists.specs.Words.{part, put, all}
+use Rattle.lists.proofs.Words.{part-whole, put-whole, all-at}
+use Rattle.refusal.specs.Answer.{firstOf}
+use Rattle.refusal.specs.declared.Answer.{Answer}
+use Rattle.refusal.specs.declared.Answer.the-variants.{Done}
+use Rattle.refusal.proofs.Answers.{none-first, none-others}
+use Rattle.field.specs.Ring.{Ring}
+use Rattle.field.specs.Level.{first, K}
+use Rattle.field.specs.Word.{element, words, within}
+use Rattle.field.specs.Packed.{Holds}
+use Rattle.field.specs.Entry.{long, rows}
+use Rattle.field.proofs.Elements.{words-length, words-element-lt}
+
+pub record Lent (a b out : List ℕ) : Type 0 where
+  pub a-length : length a ≡ 12
+  pub b-length : length b ≡ 12
+  pub out-length : length out ≡ 12
+  pub a-words : part 0 12 a ≡ words first (element first a)
+  pub b-words : part 0 12 b ≡ words first (element first b)
+
+-- words within the limit are those of an element
+pub within-words : (s : List ℕ) → length s ≡ 12 → within first s ≡ true → part 0 12 s ≡ words first (element first s)
+unfolding within
+within-words s n e = part-whole 12 s n ∙ sym (words-element-lt first s n below)
+  where
+    below : (i : ℕ) → i < 12 → getD s i 0 < 2 ^ 11
+    below i h = omega (arith, leb-true (getD s i 0) 2047 (all-at (λ x. leb x 2047) s e i (omega arith)))
+
+-- the rows after each that concerns a length, and after those
+module _ (a b out : List ℕ) where
+  abbrev pub rows4 : List (Bool × ℕ)
+  rows4 = (not (within first b), 6) ∷ []
+
+  abbrev pub rows3 : List (Bool × ℕ)
+  rows3 = (not (within first a), 6) ∷ rows4
+
+  abbrev pub rows2 : List (Bool × ℕ)
+  rows2 = (not (long out), 3) ∷ rows3
+
+  abbrev pub rows1 : List (Bool × ℕ)
+  rows1 = (not (long b), 3) ∷ rows2
+
+  pub lent : firstOf (rows a b out) ≡ Done → Lent a b out
+  lent e = record {
+    a-length = la;
+    b-length = lb;
+    out-length = eqb-true (length out) 12 (not-false (long out) (none-first (not (long out)) 3 rows3 e2));
+    a-words = within-words a la (not-false (within first a) (none-first (not (within first a)) 6 rows4 e3));
+    b-words = within-words b lb (not-false (within first b) (none-first (not (within first b)) 6 [] (none-others (not (within first a)) 6 rows4 e3)));
+  }
+    where
+      e1 : firstOf rows1 ≡ Done
+      e1 = none-others (not (long a)) 3 rows1 e
+
+      e2 : firstOf rows2 ≡ Done
+      e2 = none-others (not (long b)) 3 rows2 e1
+
+      e3 : firstOf rows3 ≡ Done
+      e3 = none-others (not (long out)) 3 rows3 e2
+
+      la : length a ≡ 12
+      la = eqb-true (length a) 12 (not-false (long a) (none-first (not (long a)) 3 rows1 e))
+
+      lb : length b ≡ 12
+      lb = eqb-true (length b) 12 (not-false (long b) (none-first (not (long b)) 3 rows2 e1))
+
+-- an element stored in a slice as long
+pub stored : (s : List ℕ) {t : List ℕ} (x : K first .Carrier) → length s ≡ 12 → t ≡ put 0 (words first x) s → t ≡ words first x
+stored s x n e = e ∙ put-whole (words first x) s (words-length first x ∙ sym n)

@@ -1,0 +1,12 @@
+pub mod Ring
+pub mod RingLaws
+pub mod Vector
+pub mod VectorLaws
+pub mod Quotient
+pub mod QuotientLaws
+pub mod Binary
+pub mod Extension
+pub mod Level
+pub mod Word
+pub mod Packed
+pub mod Entry

@@ -1,0 +1,25 @@
+-- Packed words: four coordinates of an element of K to a 64-bit word, sixteen bits each, the lowest first.
+use mathlib.Core.Path.{_≡_}
+use mathlib.Core.List.{List}
+use Prim.Native.Nat.{ℕ, zero, suc, _*_, _/_, _%_, _^_, _<_}
+use lib.ListN.{getD, drop}
+use Rattle.field.specs.Level.{K, embed}
+use Rattle.field.specs.declared.Level.{Level}
+use Rattle.field.specs.Word.{small, words}
+
+-- bits 16 j to 16 j + 15 of a number
+unfoldable pub lane : ℕ → ℕ → ℕ
+lane x zero = x % 65536
+lane x (suc j) = lane (x / 65536) j
+
+-- coordinate i of packed words
+unfoldable pub coordinate : List ℕ → ℕ → ℕ
+coordinate ws i = lane (getD ws (i / 4) 0) (i % 4)
+
+-- packed words hold x: their coordinates are the words of x
+unfoldable pub Holds : (l : Level) → List ℕ → K l .Carrier → Type 0
+Holds l ws x = (i : ℕ) → i < l .coordinates → coordinate ws i ≡ getD (words l x) i 0
+
+-- a table, three words to an element, holds the multiples of x by 1, z, z^2 and so on
+unfoldable pub Tabulates : (l : Level) → List ℕ → K l .Carrier → Type 0
+Tabulates l ts x = (k : ℕ) → k < l .width → Holds l (drop (3 * k) ts) (K l .mul (embed l .map (small l (2 ^ k))) x)

@@ -1,0 +1,71 @@
+-- Laws of parts of lists, of tests of all words, and of loops that fill a list from the front.
+use mathlib.Core.Path.{_≡_, refl, sym, ap, ap₂, _∙_, subst}
+use mathlib.Core.Bool.{Bool, true, false, _&&_}
+use mathlib.Core.List.{List, [], _∷_, _++_, append-nil, append-assoc}
+use Prim.Native.Nat.{ℕ, zero, suc, _+_, _≤_, _<_}
+use native.Mathlib.Nat.{add-zero}
+use native.Mathlib.Numerals.{add-one}
+use native.Mathlib.Omega.{arith}
+use lib.ListN.{length, getD, take, drop, set, drop-of-length-le, length-append, length-drop, length-take}
+use borrow.Author.Count.{below-more}
+use lib.Seq.{take-all, take-suc, length-take-le, getD-take, getD-drop, getD-set-same, getD-set-other, paste}
+use Rattle.lists.specs.Words.{part, put, all}
+
+-- word k of a part
+pub part-at : (i n : ℕ) (s : List ℕ) (k : ℕ) → k < n → getD (part i n s) k 0 ≡ getD s (i + k) 0
+part-at i n s k h = getD-take n (drop i s) k 0 h ∙ getD-drop i s k 0
+
+pub part-length : (i n : ℕ) (s : List ℕ) → i + n ≤ length s → length (part i n s) ≡ n
+part-length i n s h = length-take-le n (drop i s) (simp length-drop (omega arith))
+
+-- the whole list as a part, and put in place of one as long
+pub part-whole : (n : ℕ) (s : List ℕ) → length s ≡ n → part 0 n s ≡ s
+part-whole n s e = take-all n s (omega arith)
+
+pub put-whole : (b s : List ℕ) → length b ≡ length s → put 0 b s ≡ b
+put-whole b s e = ap (λ t. b ++ t) (drop-of-length-le s {i = 0 + length b} (omega arith)) ∙ append-nil b
+
+pub put-length : (i : ℕ) (b s : List ℕ) → i + length b ≤ length s → length (put i b s) ≡ length s
+put-length i b s h = simp (length-append, length-take-le i s (omega arith), length-drop) (omega arith)
+
+-- a copy that is whole
+pub put-pasted : (i n : ℕ) (b s : List ℕ) → length b ≡ n → paste s i b n ≡ put i b s
+put-pasted i n b s e = ap₂ (λ (u : List ℕ) (k : ℕ). take i s ++ u ++ drop (i + k) s) (take-all n b (omega arith)) (sym e)
+
+-- what holds of each of the first i words, with one more set
+pub set-more : (P : ℕ → ℕ → Type 0) (s : List ℕ) (i x : ℕ) → i < length s → ((k : ℕ) → k < i → P k (getD s k 0)) → P i x → (k : ℕ) → k < i + 1 → P k (getD (set s i x) k 0)
+set-more P s i x h e p = below-more (λ k. P k (getD (set s i x) k 0)) i (λ k l. subst (P k) (sym (getD-set-other s i k x 0 (omega arith))) (e k l)) (subst (P i) (sym (getD-set-same s i x 0 h)) p)
+
+module _ (p : ℕ → Bool) where
+  and-true : (b : Bool) → b ≡ (b && true)
+  and-true false = refl
+  and-true true = refl
+
+  and-assoc : (a b c : Bool) → ((a && b) && c) ≡ (a && (b && c))
+  and-assoc false b c = refl
+  and-assoc true b c = refl
+
+  all-append : (s t : List ℕ) → all p (s ++ t) ≡ (all p s && all p t)
+  unfolding all
+  all-append [] t = refl
+  all-append (x ∷ s) t = ap (λ b. p x && b) (all-append s t) ∙ sym (and-assoc (p x) (all p s) (all p t))
+
+  -- one word more
+  pub all-more : (s : List ℕ) (k : ℕ) → k < length s → all p (take (k + 1) s) ≡ (all p (take k s) && p (getD s k 0))
+  unfolding all
+  all-more s k h = ap (λ t. all p t) (ap (λ n. take n s) (add-one k) ∙ take-suc s k 0 h) ∙ all-append (take k s) (getD s k 0 ∷ []) ∙ ap (λ b. all p (take k s) && b) (sym (and-true (p (getD s k 0))))
+
+  pub all-at : (s : List ℕ) → all p s ≡ true → (k : ℕ) → k < length s → p (getD s k 0) ≡ true
+  unfolding all
+  all-at [] e k h = absurd (omega arith)
+  all-at (x ∷ s) e zero h = left (p x) (all p s) e
+    where
+      left : (a b : Bool) → (a && b) ≡ true → a ≡ true
+      left true b e = refl
+      left false b e = e
+  all-at (x ∷ s) e (suc k) h = all-at s (right (p x) (all p s) e) k (omega arith)
+    where
+      right : (a b : Bool) → (a && b) ≡ true → b ≡ true
+      right true b e = e
+      right false true e = refl
+      right false false e = e

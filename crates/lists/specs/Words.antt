@@ -1,0 +1,18 @@
+-- Parts of a list of words, and tests of all its words.
+use mathlib.Core.Bool.{Bool, true, false, _&&_}
+use mathlib.Core.List.{List, [], _∷_, _++_}
+use Prim.Native.Nat.{ℕ, _+_}
+use lib.ListN.{length, take, drop}
+
+-- the n words from place i on
+abbrev pub part : ℕ → ℕ → List ℕ → List ℕ
+part i n s = take n (drop i s)
+
+-- s with b in place of the words from place i on
+abbrev pub put : ℕ → List ℕ → List ℕ → List ℕ
+put i b s = take i s ++ b ++ drop (i + length b) s
+
+-- whether the test holds of every word
+unfoldable pub all : (ℕ → Bool) → List ℕ → Bool
+all p [] = true
+all p (x ∷ s) = p x && all p s

@@ -1,0 +1,1 @@
+// Definitions and laws on lists of words; no code.

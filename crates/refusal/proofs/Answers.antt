@@ -1,0 +1,38 @@
+-- Laws of the first row that applies.
+use mathlib.Core.Path.{_≡_, refl, sym, ap, ap₂, _∙_}
+use mathlib.Core.Bool.{Bool, true, false}
+use mathlib.Core.List.{List, [], _∷_}
+use Prim.Native.Nat.{ℕ}
+use native.Mathlib.Omega.{arith}
+use Rattle.refusal.specs.Answer.{refusal, firstOf, written, decided, numberOf, numbered}
+use Rattle.refusal.specs.declared.Refusal.{Refusal}
+use Rattle.refusal.specs.declared.Answer.{Answer}
+use Rattle.refusal.specs.declared.Answer.the-variants.{Done, Refused}
+
+-- where no row applies, neither does the first, nor one of the others
+pub none-first : (b : Bool) (k : ℕ) (rows : List (Bool × ℕ)) → firstOf ((b, k) ∷ rows) ≡ Done → b ≡ false
+none-first false k rows e = refl
+none-first true k rows e = let z : _≡_ {A = ℕ} 0 1 = cc in absurd (omega arith)
+
+pub none-others : (b : Bool) (k : ℕ) (rows : List (Bool × ℕ)) → firstOf ((b, k) ∷ rows) ≡ Done → firstOf rows ≡ Done
+none-others false k rows e = e
+none-others true k rows e = let z : _≡_ {A = ℕ} 0 1 = cc in absurd (omega arith)
+
+-- a row that does not apply is passed over, and the first that applies decides
+pub pass : (k : ℕ) (rows : List (Bool × ℕ)) {b : Bool} → b ≡ false → firstOf ((b, k) ∷ rows) ≡ firstOf rows
+pass k rows e = ap (λ t. firstOf ((t, k) ∷ rows)) e
+
+pub stop : (k : ℕ) (rows : List (Bool × ℕ)) {b : Bool} → b ≡ true → firstOf ((b, k) ∷ rows) ≡ refusal k
+stop k rows e = ap (λ t. firstOf ((t, k) ∷ rows)) e
+
+-- an answer r and what s holds, by the answer's case
+module _ {A : Type 0} (rows : List (Bool × ℕ)) (result old : A) {r : Answer} (e : r ≡ firstOf rows) where
+  pub when-done : {s : A} → r ≡ Done → s ≡ result → (r, s) ≡ decided rows result old
+  when-done {s} d h = ap₂ (λ (a : Answer) (t : A). (a, t)) e (h ∙ ap (λ a. written a result old) (sym d ∙ e))
+
+  pub when-refused : {k : Refusal} → r ≡ Refused k → (r, old) ≡ decided rows result old
+  when-refused d = ap₂ (λ (a : Answer) (t : A). (a, t)) e (ap (λ a. written a result old) (sym d ∙ e))
+
+-- the same outcome, with the answer's number k
+pub when-numbered : {A : Type 0} {r : Answer} {s : A} {o : Answer × A} {k : ℕ} → (r, s) ≡ o → k ≡ numberOf r → (k, s) ≡ numbered o
+when-numbered {s = s} e h = ap (λ n. (n, s)) h ∙ ap numbered e

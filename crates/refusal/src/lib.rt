@@ -1,0 +1,51 @@
+// The refusals of document 01, with their numbers, and the answer of an entry that writes its results.
+ghost use mathlib.Core.Path.{_≡_};
+ghost use Rattle.refusal.specs.Answer.{numberOf};
+
+// A refusal, by its number.
+pub struct Refusal {
+    pub number: u32,
+}
+
+impl Refusal {
+    // n below 2 or above the level's largest
+    pub const SIZE: Refusal = Refusal { number: 1 };
+    // m is 0, or at least n
+    pub const ROWS: Refusal = Refusal { number: 2 };
+    // a lent slice isn't of its stated length
+    pub const LENGTH: Refusal = Refusal { number: 3 };
+    // an element of H or x is above the limit
+    pub const KEY: Refusal = Refusal { number: 4 };
+    // a byte of u or t is above 1
+    pub const BIT: Refusal = Refusal { number: 5 };
+    // a coordinate of an element of K is above the limit
+    pub const COORDINATE: Refusal = Refusal { number: 6 };
+    // a position is 2^d or more
+    pub const POSITION: Refusal = Refusal { number: 7 };
+    // some top coefficient isn't zero
+    pub const TOP: Refusal = Refusal { number: 8 };
+    // fewer bytes remain than a head or a content needs
+    pub const SHORT: Refusal = Refusal { number: 9 };
+    // not the tag that comes next
+    pub const TAG: Refusal = Refusal { number: 10 };
+    // not the length stated for the field
+    pub const FIELD: Refusal = Refusal { number: 11 };
+    // bytes follow the last field
+    pub const END: Refusal = Refusal { number: 12 };
+}
+
+// What an entry that writes its results answers.
+pub enum Answer {
+    Done,
+    Refused(Refusal),
+}
+
+// The answer's number: 0 for Done, else the refusal's.
+pub fn number(answer: Answer) -> u32
+    ensures { λ r. ⌜ r ≡ numberOf answer ⌝ }
+{
+    match answer {
+        Answer::Done => 0,
+        Answer::Refused(refusal) => refusal.number,
+    }
+}

@@ -1,0 +1,55 @@
+//! An entry, its groups of cases, and one case.
+
+use crate::lent::Lent;
+use reference::samples::Generator;
+
+/// Calls an entry with the numbers, the inputs and the outputs of a case, and
+/// gives its answer.
+pub type Call = fn(&[usize], &[Lent], &mut [Lent]) -> u32;
+
+/// A public entry.
+pub struct Entry {
+    /// The name in document 01.
+    pub name: &'static str,
+    /// The names of the numbers that it takes by value.
+    pub numbers: &'static [&'static str],
+    /// The names of the slices that it reads.
+    pub inputs: &'static [&'static str],
+    /// The names of the slices that it writes.
+    pub outputs: &'static [&'static str],
+    /// The answers that are no refusal.
+    pub done: &'static [u32],
+    /// The refusals that it can answer.
+    pub refusals: &'static [u32],
+    /// The entry of the library.
+    pub library: Call,
+    /// The entry of the reference.
+    pub reference: Call,
+    /// The groups of cases.
+    pub groups: &'static [Group],
+}
+
+/// A group of cases of one entry.
+pub struct Group {
+    /// What its cases have in common.
+    pub name: &'static str,
+    /// Hands over the cases, one after another.
+    pub cases: fn(&mut Generator, &mut dyn FnMut(Case)),
+}
+
+/// The inputs of one call, its outputs before the call, and what is known of
+/// the result without the reference.
+#[derive(Clone, Debug)]
+pub struct Case {
+    /// The numbers passed by value.
+    pub numbers: Vec<usize>,
+    /// The slices that the entry reads.
+    pub inputs: Vec<Lent>,
+    /// The slices that the entry writes, with random content.
+    pub outputs: Vec<Lent>,
+    /// The answer, where the case is made for one.
+    pub answer: Option<u32>,
+    /// The words of the first output after the call, where document 01 states
+    /// them.
+    pub stated: Option<Vec<u16>>,
+}

@@ -1,0 +1,368 @@
+//! The entries sum and product in K.
+
+use crate::case::{Call, Case, Entry, Group};
+use crate::lent::Lent;
+use crate::perk;
+use reference::large_field::{COORDINATES, K};
+use reference::samples::Generator;
+use reference::small_field::F;
+use reference::Refusal;
+
+/// The answer without a refusal.
+const DONE: u32 = 0;
+
+/// 3: "a lent slice isn't of its stated length".
+const LENGTH: u32 = 3;
+
+/// 6: "a coordinate of an element of K is above 2047".
+const COORDINATE: u32 = 6;
+
+/// The entry sum.
+pub const SUM: Entry = entry(
+    "sum",
+    |_, inputs, outputs| {
+        let (a, b) = operands(inputs);
+        perk::sum(a, b, outputs[0].words_mut())
+    },
+    |_, inputs, outputs| {
+        let (a, b) = operands(inputs);
+        number(reference::sum(a, b, outputs[0].words_mut()))
+    },
+    &[
+        RANDOM,
+        SPECIAL,
+        TWICE,
+        LENGTHS,
+        COORDINATES_ABOVE,
+        BOTH_FAULTS,
+        RANDOM_FAULTS,
+    ],
+);
+
+/// The entry product.
+pub const PRODUCT: Entry = entry(
+    "product",
+    |_, inputs, outputs| {
+        let (a, b) = operands(inputs);
+        perk::product(a, b, outputs[0].words_mut())
+    },
+    |_, inputs, outputs| {
+        let (a, b) = operands(inputs);
+        number(reference::product(a, b, outputs[0].words_mut()))
+    },
+    &[
+        RANDOM,
+        SPECIAL,
+        TWICE,
+        LENGTHS,
+        COORDINATES_ABOVE,
+        BOTH_FAULTS,
+        RANDOM_FAULTS,
+        EXAMPLES,
+    ],
+);
+
+/// An entry that takes two elements and writes one.
+const fn entry(
+    name: &'static str,
+    library: Call,
+    reference: Call,
+    groups: &'static [Group],
+) -> Entry {
+    Entry {
+        name,
+        numbers: &[],
+        inputs: &["a", "b"],
+        outputs: &["out"],
+        done: &[DONE],
+        refusals: &[LENGTH, COORDINATE],
+        library,
+        reference,
+        groups,
+    }
+}
+
+/// Both operands; a case with one input lends it twice.
+fn operands(inputs: &[Lent]) -> (&[u16], &[u16]) {
+    (inputs[0].words(), inputs[inputs.len() - 1].words())
+}
+
+/// The number of an answer of the reference.
+fn number(answer: Result<(), Refusal>) -> u32 {
+    answer.map_or_else(Refusal::number, |()| DONE)
+}
+
+/// A case with these operands and an output of this length.
+fn case(
+    generator: &mut Generator,
+    a: &[u16],
+    b: &[u16],
+    out_len: usize,
+    answer: Option<u32>,
+) -> Case {
+    Case {
+        numbers: Vec::new(),
+        inputs: vec![
+            Lent::with_words(a, generator),
+            Lent::with_words(b, generator),
+        ],
+        outputs: vec![Lent::any_words(out_len, generator)],
+        answer,
+        stated: None,
+    }
+}
+
+/// A case that isn't refused.
+fn right(generator: &mut Generator, a: &[u16], b: &[u16]) -> Case {
+    case(generator, a, b, COORDINATES, Some(DONE))
+}
+
+/// A random element; in one of four most coordinates are 0.
+fn element(generator: &mut Generator) -> Vec<u16> {
+    let mut words = generator.words(COORDINATES);
+    if generator.below(4) == 0 {
+        for word in &mut words {
+            if generator.below(4) != 0 {
+                *word = 0;
+            }
+        }
+    }
+    words
+}
+
+/// The element with a word in coordinate i and 0 in the others.
+fn single(i: usize, word: u16) -> Vec<u16> {
+    let mut words = vec![0; COORDINATES];
+    words[i] = word;
+    words
+}
+
+/// A word above 2047.
+fn above(generator: &mut Generator) -> u16 {
+    F::LARGEST + 1 + generator.below(usize::from(u16::MAX - F::LARGEST)) as u16
+}
+
+const RANDOM: Group = Group {
+    name: "random elements",
+    cases: |generator, each| {
+        for _ in 0..100_000 {
+            let a = element(generator);
+            let b = element(generator);
+            each(right(generator, &a, &b));
+        }
+    },
+};
+
+/// Zero, powers of Y, single bits, and elements with the largest word in some
+/// or all coordinates.
+fn special() -> Vec<Vec<u16>> {
+    let mut list = vec![vec![0; COORDINATES]];
+    // Y^22 is the highest power in a product that is not reduced.
+    list.extend((0..=22).map(|power| K::Y.power(power).words().to_vec()));
+    for i in 0..COORDINATES {
+        list.extend((1..11).map(|bit| single(i, 1 << bit)));
+        list.push(single(i, F::LARGEST));
+        let mut others = vec![F::LARGEST; COORDINATES];
+        others[i] = 0;
+        list.push(others);
+    }
+    for word in [1, 2, 0b010_1010_1010, 0b101_0101_0101, 1024, F::LARGEST] {
+        list.push(vec![word; COORDINATES]);
+    }
+    for rest in 0..4 {
+        let every_fourth = |i| if i % 4 == rest { F::LARGEST } else { 0 };
+        list.push((0..COORDINATES).map(every_fourth).collect());
+    }
+    list.extend([3, 5, 517, 1023, 2043, 2046].map(|word| single(0, word)));
+    list
+}
+
+const SPECIAL: Group = Group {
+    name: "all pairs of special elements",
+    cases: |generator, each| {
+        let list = special();
+        for a in &list {
+            for b in &list {
+                each(right(generator, a, b));
+            }
+        }
+    },
+};
+
+const TWICE: Group = Group {
+    name: "one slice lent as both operands",
+    cases: |generator, each| {
+        let mut list = special();
+        list.extend((0..1_000).map(|_| element(generator)));
+        for a in list {
+            let mut case = right(generator, &a, &a);
+            case.inputs.truncate(1);
+            each(case);
+        }
+    },
+};
+
+/// A case with slices of these lengths and all words up to 2047.
+fn of_lengths(generator: &mut Generator, [a, b, out]: [usize; 3]) -> Case {
+    let right = [a, b, out].iter().all(|&length| length == COORDINATES);
+    let answer = if right { DONE } else { LENGTH };
+    let a = generator.words(a);
+    let b = generator.words(b);
+    case(generator, &a, &b, out, Some(answer))
+}
+
+/// The lengths that are tried for each slice.
+const TRIED: std::ops::RangeInclusive<usize> = 0..=26;
+
+/// The right lengths.
+const RIGHT: [usize; 3] = [COORDINATES; 3];
+
+const LENGTHS: Group = Group {
+    name: "lengths",
+    cases: |generator, each| {
+        // 268 and 65548 are 12 in their lowest 8 and 16 bits.
+        for slice in 0..3 {
+            for length in TRIED.chain([120, 268, 65_548]) {
+                let mut lengths = RIGHT;
+                lengths[slice] = length;
+                each(of_lengths(generator, lengths));
+            }
+        }
+        for (one, other) in [(0, 1), (0, 2), (1, 2)] {
+            for length in TRIED {
+                for other_length in TRIED {
+                    let mut lengths = RIGHT;
+                    lengths[one] = length;
+                    lengths[other] = other_length;
+                    each(of_lengths(generator, lengths));
+                }
+            }
+        }
+        for _ in 0..1_000 {
+            let lengths = [(); 3].map(|()| generator.below(TRIED.end() + 1));
+            each(of_lengths(generator, lengths));
+        }
+        // Empty slices with dangling pointers, in each set of places.
+        for set in 1..8 {
+            let mut case = of_lengths(generator, RIGHT);
+            let Case {
+                inputs, outputs, ..
+            } = &mut case;
+            for (place, slice) in inputs.iter_mut().chain(outputs).enumerate() {
+                if set >> place & 1 == 1 {
+                    *slice = Lent::no_words();
+                }
+            }
+            case.answer = Some(LENGTH);
+            each(case);
+        }
+    },
+};
+
+const COORDINATES_ABOVE: Group = Group {
+    name: "coordinates about 2047",
+    cases: |generator, each| {
+        for i in 0..COORDINATES {
+            let mut words = vec![2047, 2048, 2049, 4095, 4096, 8192, 16_384];
+            words.extend([32_767, 32_768, 34_815, 63_488, 65_535]);
+            words.extend((0..20).map(|_| above(generator)));
+            for word in words {
+                let answer = if word > F::LARGEST { COORDINATE } else { DONE };
+                for elements in [element, |_: &mut Generator| vec![0; COORDINATES]] {
+                    let a = elements(generator);
+                    let mut b = elements(generator);
+                    b[i] = word;
+                    each(case(generator, &a, &b, COORDINATES, Some(answer)));
+                    each(case(generator, &b, &a, COORDINATES, Some(answer)));
+                }
+            }
+            // A coordinate of each operand.
+            for j in 0..COORDINATES {
+                let mut a = element(generator);
+                let mut b = element(generator);
+                a[i] = above(generator);
+                b[j] = above(generator);
+                each(case(generator, &a, &b, COORDINATES, Some(COORDINATE)));
+            }
+        }
+    },
+};
+
+const BOTH_FAULTS: Group = Group {
+    name: "wrong length and coordinate above 2047",
+    cases: |generator, each| {
+        for slice in 0..3 {
+            for length in TRIED.filter(|&length| length != COORDINATES) {
+                for _ in 0..20 {
+                    let mut lengths = RIGHT;
+                    lengths[slice] = length;
+                    let mut a = generator.words(lengths[0]);
+                    let mut b = generator.words(lengths[1]);
+                    // At least one of the operands has a word.
+                    for words in [&mut a, &mut b] {
+                        if !words.is_empty() {
+                            let place = generator.below(words.len());
+                            words[place] = above(generator);
+                        }
+                    }
+                    each(case(generator, &a, &b, lengths[2], Some(LENGTH)));
+                }
+            }
+        }
+    },
+};
+
+const RANDOM_FAULTS: Group = Group {
+    name: "random faults",
+    cases: |generator, each| {
+        for _ in 0..20_000 {
+            let mut lengths = RIGHT;
+            for length in &mut lengths {
+                if generator.below(8) == 0 {
+                    *length = generator.below(TRIED.end() + 1);
+                }
+            }
+            let mut a = generator.words(lengths[0]);
+            let mut b = generator.words(lengths[1]);
+            for words in [&mut a, &mut b] {
+                if !words.is_empty() && generator.below(4) == 0 {
+                    let place = generator.below(words.len());
+                    words[place] = generator.number() as u16;
+                }
+            }
+            each(case(generator, &a, &b, lengths[2], None));
+        }
+    },
+};
+
+/// A product that document 01 states.
+fn stated(generator: &mut Generator, a: &[u16], b: &[u16], product: &[u16]) -> Case {
+    Case {
+        stated: Some(product.to_vec()),
+        ..right(generator, a, b)
+    }
+}
+
+const EXAMPLES: Group = Group {
+    name: "examples of document 01",
+    cases: |generator, each| {
+        // Examples in F, at Y^i and Y^j: Y^i times Y^j is Y^(i + j).
+        for (a, b, product) in [(1024, 2, 5), (1024, 1024, 517), (2047, 2, 2043)] {
+            for i in 0..COORDINATES {
+                for j in 0..COORDINATES - i {
+                    let product = single(i + j, product);
+                    each(stated(generator, &single(i, a), &single(j, b), &product));
+                    each(stated(generator, &single(i, b), &single(j, a), &product));
+                }
+            }
+        }
+        for (j, ones) in [(1, &[0, 3][..]), (11, &[1, 4, 10])] {
+            let mut product = vec![0; COORDINATES];
+            for &i in ones {
+                product[i] = 1;
+            }
+            each(stated(generator, &single(11, 1), &single(j, 1), &product));
+            each(stated(generator, &single(j, 1), &single(11, 1), &product));
+        }
+    },
+};

@@ -1,0 +1,19 @@
+//! Compares the entries of the static library libperk.a with the reference
+//! implementation, on seeded inputs.
+//!
+//! - [`perk`]: the C functions of the library, as functions on slices;
+//! - [`lent`]: lent slices with guard words on both sides;
+//! - [`case`]: an entry, its groups of cases, and one case;
+//! - [`run`]: the calls, the comparisons and the report;
+//! - [`entries`]: the entries, one file for each group of entries.
+//!
+//! A new entry needs its C function in [`perk`], a file in [`entries`], and a
+//! place in the list [`entries::ALL`].
+#![deny(missing_docs)]
+#![deny(unsafe_code)]
+
+pub mod case;
+pub mod entries;
+pub mod lent;
+pub mod perk;
+pub mod run;

@@ -1,0 +1,271 @@
+//! The calls, the comparisons and the report.
+
+use crate::case::{Call, Case, Entry, Group};
+use crate::lent::Lent;
+use reference::samples::Generator;
+use std::collections::BTreeMap;
+use std::fmt::Write;
+use std::hint::black_box;
+
+/// How many inputs reached each answer.
+type Tally = BTreeMap<u32, usize>;
+
+/// A run over all entries.
+pub struct Run {
+    seed: u64,
+    /// The word of an expected output that is still to be altered.
+    spoil: Option<usize>,
+    /// Calls of the library.
+    calls: usize,
+    /// Calls of the library that ended without a refusal.
+    done: usize,
+    passed: usize,
+    failed: usize,
+}
+
+/// The generator of one group: it depends on the seed and the names alone, so
+/// that a new group changes no other.
+fn generator_of(seed: u64, entry: &str, group: &str) -> Generator {
+    // FNV-1a over both names
+    let mut hash: u64 = 0xcbf2_9ce4_8422_2325;
+    for byte in entry.bytes().chain([0]).chain(group.bytes()) {
+        hash = (hash ^ u64::from(byte)).wrapping_mul(0x0000_0100_0000_01b3);
+    }
+    Generator::new(Generator::new(seed).number() ^ hash)
+}
+
+/// The state after a call.
+struct After {
+    answer: u32,
+    inputs: Vec<Lent>,
+    outputs: Vec<Lent>,
+}
+
+/// Calls one implementation on its own copy of the case. The compiler may not
+/// assume that the inputs and the guards keep their content.
+fn called(call: Call, case: &Case) -> After {
+    let inputs = black_box(case.inputs.clone());
+    let mut outputs = black_box(case.outputs.clone());
+    let answer = call(&case.numbers, &inputs, &mut outputs);
+    black_box(After {
+        answer,
+        inputs,
+        outputs,
+    })
+}
+
+/// The first difference between two lists of slices, guards included.
+fn first_difference(names: &[&str], found: &[Lent], expected: &[Lent]) -> Option<String> {
+    let mut pairs = names.iter().zip(found.iter().zip(expected));
+    pairs.find_map(|(name, (found, expected))| {
+        let difference = found.difference(expected)?;
+        Some(format!("{name}, {difference}"))
+    })
+}
+
+/// What the reference does otherwise than the case states.
+fn reference_fault(case: &Case, expected: &After) -> Option<String> {
+    if let Some(answer) = case.answer.filter(|&answer| answer != expected.answer) {
+        let found = expected.answer;
+        return Some(format!("the reference answers {found}, stated is {answer}"));
+    }
+    let stated = case.stated.as_ref()?;
+    let found = expected.outputs[0].words();
+    (found != stated).then(|| format!("the reference writes {found:?}, stated is {stated:?}"))
+}
+
+/// What the library does otherwise than the reference: the answer, or the first
+/// word that differs. The inputs keep their content, and on a refusal the
+/// outputs too.
+fn difference(entry: &Entry, case: &Case, found: &After, expected: &After) -> Option<String> {
+    if found.answer != expected.answer {
+        return Some(format!(
+            "answer {}, expected {}",
+            found.answer, expected.answer
+        ));
+    }
+    let refused = !entry.done.contains(&found.answer);
+    first_difference(entry.inputs, &found.inputs, &case.inputs)
+        .or_else(|| first_difference(entry.outputs, &found.outputs, &expected.outputs))
+        .or_else(|| {
+            let kept = first_difference(entry.outputs, &found.outputs, &case.outputs);
+            kept.filter(|_| refused)
+        })
+}
+
+/// Alters word N of the outputs, counted through all of them; whether there is
+/// such a word.
+fn alter(outputs: &mut [Lent], n: usize) -> bool {
+    let mut rest = n;
+    for output in outputs {
+        if rest < output.len() {
+            output.alter(rest);
+            return true;
+        }
+        rest -= output.len();
+    }
+    false
+}
+
+/// The case as text.
+fn description(entry: &Entry, case: &Case) -> String {
+    let mut text = String::new();
+    for (name, number) in entry.numbers.iter().zip(&case.numbers) {
+        let _ = writeln!(text, "    {name} = {number}");
+    }
+    for (name, input) in entry.inputs.iter().zip(&case.inputs) {
+        let _ = writeln!(text, "    {name} = {input}");
+    }
+    for (name, output) in entry.outputs.iter().zip(&case.outputs) {
+        let _ = writeln!(text, "    {name} before = {output}");
+    }
+    text
+}
+
+/// The numbers of a tally as text.
+fn answers(tally: &Tally) -> String {
+    let list: Vec<String> = tally
+        .iter()
+        .map(|(answer, count)| format!("{answer}: {count}"))
+        .collect();
+    if list.is_empty() {
+        "none".to_string()
+    } else {
+        list.join(", ")
+    }
+}
+
+impl Run {
+    /// A run with this seed, in which word N of one expected output is altered
+    /// when `spoil` is N.
+    pub fn new(seed: u64, spoil: Option<usize>) -> Run {
+        Run {
+            seed,
+            spoil,
+            calls: 0,
+            done: 0,
+            passed: 0,
+            failed: 0,
+        }
+    }
+
+    /// Calls library and reference with one case. Gives the library's answer,
+    /// and what differs.
+    fn compare(&mut self, entry: &Entry, case: &Case) -> (u32, Option<String>) {
+        let found = called(entry.library, case);
+        let mut expected = called(entry.reference, case);
+        let done = entry.done.contains(&expected.answer);
+        self.calls += 1;
+        self.done += usize::from(done);
+
+        let fault = reference_fault(case, &expected);
+        let spoiled = done && self.spoil.is_some_and(|n| alter(&mut expected.outputs, n));
+        let note = if spoiled {
+            self.spoil = None;
+            " (altered by --spoil)"
+        } else {
+            ""
+        };
+        let fault = fault.or_else(|| {
+            let difference = difference(entry, case, &found, &expected)?;
+            Some(difference + note)
+        });
+        (found.answer, fault)
+    }
+
+    /// Counts a line of the report, and prints it.
+    fn report(&mut self, text: &str, faults: &[String]) {
+        if faults.is_empty() {
+            self.passed += 1;
+            println!("{text}");
+        } else {
+            self.failed += 1;
+            println!("{text}; FAILED: {}", faults.join("; "));
+        }
+    }
+
+    /// Runs one group and gives its tally.
+    fn group(&mut self, entry: &Entry, group: &Group) -> Tally {
+        let mut tally = Tally::new();
+        let mut inputs = 0;
+        let mut differences = 0;
+        let mut generator = generator_of(self.seed, entry.name, group.name);
+        (group.cases)(&mut generator, &mut |case| {
+            let (answer, difference) = self.compare(entry, &case);
+            *tally.entry(answer).or_default() += 1;
+            if let Some(difference) = difference {
+                if differences == 0 {
+                    println!(
+                        "seed {}, {}, {}, case {inputs}: {difference}",
+                        self.seed, entry.name, group.name
+                    );
+                    print!("{}", description(entry, &case));
+                }
+                differences += 1;
+            }
+            inputs += 1;
+        });
+        let mut faults = Vec::new();
+        if inputs == 0 {
+            faults.push("no case".to_string());
+        }
+        if differences > 0 {
+            faults.push(format!("{differences} differences"));
+        }
+        let text = format!(
+            "{}, {}: {inputs} inputs, answers {}",
+            entry.name,
+            group.name,
+            answers(&tally)
+        );
+        self.report(&text, &faults);
+        tally
+    }
+
+    /// Runs the groups of one entry. Each answer of the entry must be reached.
+    pub fn entry(&mut self, entry: &Entry) {
+        let mut total = Tally::new();
+        for answer in entry.done.iter().chain(entry.refusals) {
+            total.insert(*answer, 0);
+        }
+        for group in entry.groups {
+            for (answer, count) in self.group(entry, group) {
+                *total.entry(answer).or_default() += count;
+            }
+        }
+        let mut faults = Vec::new();
+        for (answer, &count) in &total {
+            let known = entry.done.contains(answer) || entry.refusals.contains(answer);
+            if count == 0 {
+                faults.push(format!("no input reached {answer}"));
+            } else if !known {
+                faults.push(format!("{answer} is no answer of this entry"));
+            }
+        }
+        let inputs: usize = total.values().sum();
+        let text = format!(
+            "{}, all groups: {inputs} inputs, answers {}",
+            entry.name,
+            answers(&total)
+        );
+        self.report(&text, &faults);
+    }
+
+    /// The word that `--spoil` names, where no expected output has had it.
+    pub fn not_spoiled(&self) -> Option<usize> {
+        self.spoil
+    }
+
+    /// Ends the run: the share of calls without a refusal, then the last line.
+    /// Whether all passed.
+    pub fn finish(mut self) -> bool {
+        let text = format!("{} of {} calls without a refusal", self.done, self.calls);
+        let mut faults = Vec::new();
+        if 3 * self.done < self.calls || self.calls == 0 {
+            faults.push("fewer than a third".to_string());
+        }
+        self.report(&text, &faults);
+        println!("{} passed, {} failed", self.passed, self.failed);
+        self.failed == 0 && self.passed > 0
+    }
+}

@@ -1,0 +1,189 @@
+//! The comparison finds each kind of fault: entries with one deliberate fault
+//! are run in the place of the library.
+
+use comparison::case::{Call, Case, Entry, Group};
+use comparison::lent::Lent;
+use comparison::run::Run;
+use reference::samples::Generator;
+
+/// Copies one byte; 3 when a slice isn't of length 1, then 5 when the byte is
+/// above 1.
+fn right(_: &[usize], inputs: &[Lent], outputs: &mut [Lent]) -> u32 {
+    if inputs[0].len() != 1 || outputs[0].len() != 1 {
+        return 3;
+    }
+    if inputs[0].bytes()[0] > 1 {
+        return 5;
+    }
+    outputs[0].bytes_mut()[0] = inputs[0].bytes()[0];
+    0
+}
+
+/// A case with this input, an output of this length and an answer.
+fn case(generator: &mut Generator, input: &[u8], len: usize, answer: u32) -> Case {
+    Case {
+        numbers: Vec::new(),
+        inputs: vec![Lent::with_bytes(input, generator)],
+        outputs: vec![Lent::any_bytes(len, generator)],
+        answer: Some(answer),
+        stated: None,
+    }
+}
+
+/// Cases that reach each answer.
+const ALL: Group = Group {
+    name: "all",
+    cases: |generator, each| {
+        for byte in [0, 1, 0, 1] {
+            each(case(generator, &[byte], 1, 0));
+        }
+        each(case(generator, &[2], 1, 5));
+        each(case(generator, &[0, 0], 1, 3));
+        each(case(generator, &[0], 0, 3));
+    },
+};
+
+/// The entry with another function in the place of the library, and other
+/// groups.
+fn entry(library: Call, groups: &'static [Group]) -> Entry {
+    Entry {
+        name: "copy",
+        numbers: &[],
+        inputs: &["input"],
+        outputs: &["output"],
+        done: &[0],
+        refusals: &[3, 5],
+        library,
+        reference: right,
+        groups,
+    }
+}
+
+/// Whether a run over this entry passes.
+fn passes(entry: Entry, spoil: Option<usize>) -> bool {
+    let mut run = Run::new(1, spoil);
+    run.entry(&entry);
+    assert_eq!(run.not_spoiled(), None);
+    run.finish()
+}
+
+/// Whether a run with this function in the place of the library passes.
+fn library_passes(library: Call) -> bool {
+    passes(entry(library, &[ALL]), None)
+}
+
+#[test]
+fn no_fault() {
+    assert!(library_passes(right));
+}
+
+#[test]
+fn wrong_output() {
+    assert!(!library_passes(|numbers, inputs, outputs| {
+        let answer = right(numbers, inputs, outputs);
+        if answer == 0 {
+            outputs[0].bytes_mut()[0] ^= 1;
+        }
+        answer
+    }));
+}
+
+#[test]
+fn wrong_answer() {
+    assert!(!library_passes(|numbers, inputs, outputs| {
+        match right(numbers, inputs, outputs) {
+            5 => 3,
+            answer => answer,
+        }
+    }));
+}
+
+#[test]
+fn output_changed_on_a_refusal() {
+    assert!(!library_passes(|numbers, inputs, outputs| {
+        let answer = right(numbers, inputs, outputs);
+        if answer == 5 {
+            outputs[0].bytes_mut()[0] ^= 1;
+        }
+        answer
+    }));
+}
+
+/// Changes the byte at an offset, as a C function could.
+fn change(pointer: *const u8, offset: isize) {
+    // SAFETY: the offsets used here stay in the buffer of the slice.
+    unsafe { *pointer.cast_mut().offset(offset) ^= 1 }
+}
+
+#[test]
+fn guard_before_the_output_changed() {
+    assert!(!library_passes(|numbers, inputs, outputs| {
+        let answer = right(numbers, inputs, outputs);
+        change(outputs[0].bytes_mut().as_mut_ptr(), -1);
+        answer
+    }));
+}
+
+#[test]
+fn guard_after_the_output_changed() {
+    assert!(!library_passes(|numbers, inputs, outputs| {
+        let answer = right(numbers, inputs, outputs);
+        change(outputs[0].bytes_mut().as_mut_ptr(), 1);
+        answer
+    }));
+}
+
+#[test]
+fn input_changed() {
+    assert!(!library_passes(|numbers, inputs, outputs| {
+        let answer = right(numbers, inputs, outputs);
+        change(inputs[0].bytes().as_ptr(), 0);
+        answer
+    }));
+}
+
+#[test]
+fn expected_word_altered() {
+    assert!(!passes(entry(right, &[ALL]), Some(0)));
+}
+
+#[test]
+fn group_without_a_case() {
+    const EMPTY: Group = Group {
+        name: "empty",
+        cases: |_, _| {},
+    };
+    assert!(!passes(entry(right, &[ALL, EMPTY]), None));
+}
+
+#[test]
+fn answer_not_reached() {
+    let entry = Entry {
+        refusals: &[3, 4, 5],
+        ..entry(right, &[ALL])
+    };
+    assert!(!passes(entry, None));
+}
+
+#[test]
+fn too_many_refusals() {
+    const REFUSED: Group = Group {
+        name: "refused",
+        cases: |generator, each| (0..9).for_each(|_| each(case(generator, &[2], 1, 5))),
+    };
+    assert!(!passes(entry(right, &[ALL, REFUSED]), None));
+}
+
+#[test]
+fn reference_against_the_stated_answer() {
+    const OTHER: Group = Group {
+        name: "other",
+        cases: |generator, each| each(case(generator, &[1], 1, 5)),
+    };
+    assert!(!passes(entry(right, &[ALL, OTHER]), None));
+}
+
+#[test]
+fn no_entry() {
+    assert!(!Run::new(1, None).finish());
+}

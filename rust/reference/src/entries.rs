@@ -1,0 +1,225 @@
+//! The public entries: "Places run from the top down, and within a place the
+//! lower number comes first"; "every output slice then holds what it held
+//! before".
+
+use crate::check_zero;
+use crate::constraint;
+use crate::key::{bits, elements_of_k, judge_lengths, rows, witness, Key, Sizes};
+use crate::large_field::{COORDINATES, K};
+use crate::polynomial::Polynomial;
+use crate::refusal::Refusal;
+
+/// "answers Accepted or Rejected"; "Rejected is no refusal."
+#[derive(Clone, Copy, Debug, PartialEq, Eq)]
+pub enum Verdict {
+    /// The equation holds.
+    Accepted,
+    /// The equation doesn't hold.
+    Rejected,
+}
+
+/// Writes elements of K, "twelve 16-bit words, coordinate 0 first".
+fn write_elements(elements: impl IntoIterator<Item = K>, out: &mut [u16]) {
+    let words: Vec<u16> = elements.into_iter().flat_map(K::words).collect();
+    out.copy_from_slice(&words);
+}
+
+/// Writes bits as bytes 0 or 1, "row after row, k = 0 first".
+fn write_bits(rows: &[Vec<bool>], out: &mut [u8]) {
+    let bytes: Vec<u8> = rows.iter().flatten().map(|&bit| u8::from(bit)).collect();
+    out.copy_from_slice(&bytes);
+}
+
+/// Two lent elements of K after the places "slices" and "material": 3, then 6.
+fn two_elements(a: &[u16], b: &[u16], out: &[u16]) -> Result<(K, K), Refusal> {
+    judge_lengths(&[
+        (a.len(), COORDINATES),
+        (b.len(), COORDINATES),
+        (out.len(), COORDINATES),
+    ])?;
+    Ok((elements_of_k(a)?[0], elements_of_k(b)?[0]))
+}
+
+/// The entry sum: "sum and product in K (two elements lent, the result
+/// written)".
+pub fn sum(a: &[u16], b: &[u16], out: &mut [u16]) -> Result<(), Refusal> {
+    let (a, b) = two_elements(a, b, out)?;
+    write_elements([a + b], out);
+    Ok(())
+}
+
+/// The entry product: "sum and product in K (two elements lent, the result
+/// written)".
+pub fn product(a: &[u16], b: &[u16], out: &mut [u16]) -> Result<(), Refusal> {
+    let (a, b) = two_elements(a, b, out)?;
+    write_elements([a * b], out);
+    Ok(())
+}
+
+/// The entry constraints: "takes the key, positions, u and v; writes t and all
+/// polynomials, polynomial 0 first".
+#[allow(clippy::too_many_arguments)]
+pub fn constraints(
+    n: usize,
+    m: usize,
+    h: &[u16],
+    x: &[u16],
+    positions: &[u8],
+    u: &[u8],
+    v: &[u16],
+    t: &mut [u8],
+    polynomials: &mut [u16],
+) -> Result<(), Refusal> {
+    let sizes = Sizes::judged(n, m)?;
+    let d = sizes.d;
+    judge_lengths(&[
+        (h.len(), sizes.h_words()),
+        (x.len(), sizes.x_words()),
+        (positions.len(), sizes.position_bytes()),
+        (u.len(), sizes.bit_bytes()),
+        (v.len(), sizes.correlation_words()),
+        (t.len(), sizes.bit_bytes()),
+        (polynomials.len(), sizes.polynomial_words()),
+    ])?;
+    let key = Key::judged(sizes, h, x)?;
+    let u = rows(&bits(u)?, d);
+    let v = rows(&elements_of_k(v)?, d);
+    let w = witness(positions, d)?;
+
+    let list = constraint::polynomials(&key, &w, &v);
+    write_bits(&constraint::masked_witness(&w, &u), t);
+    write_elements(
+        list.iter()
+            .flat_map(|polynomial| (0..=d).map(|power| polynomial.coefficient(power))),
+        polynomials,
+    );
+    Ok(())
+}
+
+/// The place "prove, before writing": 8 "some top coefficient of the n + m
+/// polynomials isn't zero".
+fn judge_tops(d: usize, polynomials: &[Polynomial]) -> Result<(), Refusal> {
+    if polynomials.iter().any(|p| p.coefficient(d) != K::ZERO) {
+        return Err(Refusal::TopCoefficient);
+    }
+    Ok(())
+}
+
+/// The entry prove: "takes these with r, s and α; writes t and a".
+#[allow(clippy::too_many_arguments)]
+pub fn prove(
+    n: usize,
+    m: usize,
+    h: &[u16],
+    x: &[u16],
+    positions: &[u8],
+    u: &[u8],
+    v: &[u16],
+    r: &[u16],
+    s: &[u16],
+    alpha: &[u16],
+    t: &mut [u8],
+    a: &mut [u16],
+) -> Result<(), Refusal> {
+    let sizes = Sizes::judged(n, m)?;
+    let d = sizes.d;
+    judge_lengths(&[
+        (h.len(), sizes.h_words()),
+        (x.len(), sizes.x_words()),
+        (positions.len(), sizes.position_bytes()),
+        (u.len(), sizes.bit_bytes()),
+        (v.len(), sizes.correlation_words()),
+        (r.len(), sizes.mask_words()),
+        (s.len(), sizes.mask_words()),
+        (alpha.len(), sizes.weight_words()),
+        (t.len(), sizes.bit_bytes()),
+        (a.len(), sizes.proof_words()),
+    ])?;
+    let key = Key::judged(sizes, h, x)?;
+    let u = rows(&bits(u)?, d);
+    let v = rows(&elements_of_k(v)?, d);
+    let r = elements_of_k(r)?;
+    let s = elements_of_k(s)?;
+    let alpha = elements_of_k(alpha)?;
+    let w = witness(positions, d)?;
+
+    let polynomials = constraint::polynomials(&key, &w, &v);
+    judge_tops(d, &polynomials)?;
+    write_bits(&constraint::masked_witness(&w, &u), t);
+    write_elements(check_zero::proof(d, &alpha, &polynomials, &r, &s), a);
+    Ok(())
+}
+
+/// The entry values: "takes the key, t, q and Δ; writes n + m values".
+#[allow(clippy::too_many_arguments)]
+pub fn values(
+    n: usize,
+    m: usize,
+    h: &[u16],
+    x: &[u16],
+    t: &[u8],
+    q: &[u16],
+    delta: &[u16],
+    values: &mut [u16],
+) -> Result<(), Refusal> {
+    let sizes = Sizes::judged(n, m)?;
+    let d = sizes.d;
+    judge_lengths(&[
+        (h.len(), sizes.h_words()),
+        (x.len(), sizes.x_words()),
+        (t.len(), sizes.bit_bytes()),
+        (q.len(), sizes.correlation_words()),
+        (delta.len(), sizes.delta_words()),
+        (values.len(), sizes.weight_words()),
+    ])?;
+    let key = Key::judged(sizes, h, x)?;
+    let t = rows(&bits(t)?, d);
+    let q = rows(&elements_of_k(q)?, d);
+    let delta = elements_of_k(delta)?[0];
+
+    write_elements(constraint::values(&key, &t, &q, delta), values);
+    Ok(())
+}
+
+/// The entry verify: "takes these with the mask numbers, α and a; answers
+/// Accepted or Rejected".
+#[allow(clippy::too_many_arguments)]
+pub fn verify(
+    n: usize,
+    m: usize,
+    h: &[u16],
+    x: &[u16],
+    t: &[u8],
+    q: &[u16],
+    delta: &[u16],
+    masks: &[u16],
+    alpha: &[u16],
+    a: &[u16],
+) -> Result<Verdict, Refusal> {
+    let sizes = Sizes::judged(n, m)?;
+    let d = sizes.d;
+    judge_lengths(&[
+        (h.len(), sizes.h_words()),
+        (x.len(), sizes.x_words()),
+        (t.len(), sizes.bit_bytes()),
+        (q.len(), sizes.correlation_words()),
+        (delta.len(), sizes.delta_words()),
+        (masks.len(), sizes.mask_words()),
+        (alpha.len(), sizes.weight_words()),
+        (a.len(), sizes.proof_words()),
+    ])?;
+    let key = Key::judged(sizes, h, x)?;
+    let t = rows(&bits(t)?, d);
+    let q = rows(&elements_of_k(q)?, d);
+    let delta = elements_of_k(delta)?[0];
+    let masks = elements_of_k(masks)?;
+    let alpha = elements_of_k(alpha)?;
+    let a = elements_of_k(a)?;
+
+    let values = constraint::values(&key, &t, &q, delta);
+    if check_zero::accepts(&a, delta, &alpha, &values, &masks) {
+        Ok(Verdict::Accepted)
+    } else {
+        Ok(Verdict::Rejected)
+    }
+}

@@ -1,0 +1,40 @@
+//! A separate implementation of document 01, the PERK permutation proof in
+//! digit form, made to be compared with.
+//!
+//! Each function names the sentence of document 01 that it follows. The
+//! methods are the plainest ones: long products and long divisions for both
+//! fields, general polynomials over K, sums as they are written, and readers
+//! that cut the bytes into fields first and judge the fields afterwards.
+//! Nothing here is meant to be quick or to run in constant time.
+//!
+//! - [`small_field`] and [`large_field`]: the fields F and K;
+//! - [`polynomial`]: polynomials over K;
+//! - [`key`]: sizes, key, digits and the conversion of lent slices;
+//! - [`constraint`]: the n + m polynomials and the verifier's n + m values;
+//! - [`check_zero`]: the proof a and the verifier's equation;
+//! - [`entries`]: the public entries with their refusals;
+//! - [`package`]: the readers, and writers for test files;
+//! - [`perkcheck`]: the line that the program `perkcheck` prints;
+//! - [`samples`] and [`vectors`]: seeded test data and the files of `vectors/`.
+#![forbid(unsafe_code)]
+#![deny(missing_docs)]
+
+pub mod check_zero;
+pub mod constraint;
+pub mod entries;
+pub mod key;
+pub mod large_field;
+pub mod package;
+pub mod perkcheck;
+pub mod polynomial;
+pub mod refusal;
+pub mod samples;
+pub mod small_field;
+pub mod vectors;
+
+pub use entries::{constraints, product, prove, sum, values, verify, Verdict};
+pub use package::{
+    field, field_range, read_check_file, read_package, write_check_file, write_package, Contents,
+};
+pub use perkcheck::{check, perkcheck_line};
+pub use refusal::Refusal;

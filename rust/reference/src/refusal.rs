@@ -1,0 +1,68 @@
+//! The refusals.
+
+/// A refusal of the table in "Public entries and what they turn down":
+/// "a refusal is an answer with its number".
+#[derive(Clone, Copy, Debug, PartialEq, Eq, PartialOrd, Ord, Hash)]
+pub enum Refusal {
+    /// 1: "n below 2 or above 64".
+    SizeN,
+    /// 2: "m is 0, or at least n".
+    SizeM,
+    /// 3: "a lent slice isn't of its stated length".
+    SliceLength,
+    /// 4: "an element of H or x is above 2047".
+    KeyElement,
+    /// 5: "a byte of u or t is above 1".
+    Bit,
+    /// 6: "a coordinate of an element of K is above 2047".
+    Coordinate,
+    /// 7: "a position is 2^d or more".
+    Position,
+    /// 8: "some top coefficient of the n + m polynomials isn't zero".
+    TopCoefficient,
+    /// 9: "fewer than 3 bytes remain for tag and length", or "fewer bytes
+    /// remain than the length".
+    BytesMissing,
+    /// 10: "not the tag that comes next".
+    Tag,
+    /// 11: "not the length stated above".
+    FieldLength,
+    /// 12: "bytes follow the last field".
+    BytesFollow,
+}
+
+impl Refusal {
+    /// All refusals in the order of their numbers.
+    pub const ALL: [Refusal; 12] = [
+        Refusal::SizeN,
+        Refusal::SizeM,
+        Refusal::SliceLength,
+        Refusal::KeyElement,
+        Refusal::Bit,
+        Refusal::Coordinate,
+        Refusal::Position,
+        Refusal::TopCoefficient,
+        Refusal::BytesMissing,
+        Refusal::Tag,
+        Refusal::FieldLength,
+        Refusal::BytesFollow,
+    ];
+
+    /// The column "Number" of the table.
+    pub fn number(self) -> u32 {
+        match self {
+            Refusal::SizeN => 1,
+            Refusal::SizeM => 2,
+            Refusal::SliceLength => 3,
+            Refusal::KeyElement => 4,
+            Refusal::Bit => 5,
+            Refusal::Coordinate => 6,
+            Refusal::Position => 7,
+            Refusal::TopCoefficient => 8,
+            Refusal::BytesMissing => 9,
+            Refusal::Tag => 10,
+            Refusal::FieldLength => 11,
+            Refusal::BytesFollow => 12,
+        }
+    }
+}

@@ -1,0 +1,269 @@
+//! The twelve examples of document 01, its edges, and the file of key A.
+
+use crate::{constraints_of, element, elements, large, tops, values_of, verdict_of};
+use reference::constraint::z;
+use reference::key::{digits, number_of_digits};
+use reference::large_field::K;
+use reference::samples::Sample;
+use reference::small_field::F;
+use reference::{
+    check, constraints, perkcheck_line, product, read_check_file, read_package, sum, Contents,
+    Refusal, Verdict,
+};
+
+fn product_in_f(a: u16, b: u16) -> u16 {
+    let (a, b) = (F::from_word(a).unwrap(), F::from_word(b).unwrap());
+    (a * b).word()
+}
+
+#[test]
+fn example_01_1024_times_2() {
+    assert_eq!(product_in_f(1024, 2), 5);
+}
+
+#[test]
+fn example_02_1024_times_1024() {
+    assert_eq!(product_in_f(1024, 1024), 517);
+}
+
+#[test]
+fn example_03_2047_times_2() {
+    assert_eq!(product_in_f(2047, 2), 2043);
+}
+
+/// The words with ones in these coordinates.
+fn ones(coordinates: &[usize]) -> [u16; 12] {
+    let mut words = [0; 12];
+    for &i in coordinates {
+        words[i] = 1;
+    }
+    words
+}
+
+#[test]
+fn example_04_y_11_times_y() {
+    let mut out = [9; 12];
+    assert_eq!(product(&ones(&[11]), &ones(&[1]), &mut out), Ok(()));
+    assert_eq!(out, ones(&[0, 3]));
+    assert_eq!(K::Y.power(11) * K::Y, K::from_words(&out).unwrap());
+}
+
+#[test]
+fn example_05_y_11_times_y_11() {
+    let mut out = [9; 12];
+    assert_eq!(product(&ones(&[11]), &ones(&[11]), &mut out), Ok(()));
+    assert_eq!(out, ones(&[1, 4, 10]));
+}
+
+#[test]
+fn example_06_key_a_polynomials() {
+    let (t, polynomials) = constraints_of(&Sample::key_a());
+    assert_eq!(t, [1, 1]);
+    let lowest: Vec<K> = polynomials.iter().map(|polynomial| polynomial[0]).collect();
+    assert_eq!(lowest, large(&elements(&[5, 5, 10])));
+    assert_eq!(tops(&polynomials), [0, 0, 0]);
+}
+
+#[test]
+fn example_07_key_a_values() {
+    let sample = Sample::key_a();
+    assert_eq!(sample.delta, element(2));
+    assert_eq!(sample.q, elements(&[3, 4]));
+    assert_eq!(values_of(&sample, &[1, 1]), large(&elements(&[5, 5, 10])));
+}
+
+#[test]
+fn example_08_key_a_proof() {
+    let sample = Sample::key_a();
+    let (t, a) = sample.proof().expect("key A is solved");
+    assert_eq!((t, a), (vec![1, 1], element(5)));
+    assert_eq!(verdict_of(&sample, &[1, 1], &element(5)), Verdict::Accepted);
+    assert_eq!(verdict_of(&sample, &[1, 1], &element(4)), Verdict::Rejected);
+}
+
+/// A sample with n = 3, m = 1 and these positions, one row of H being 1 0 0.
+fn three(positions: &[u8]) -> Sample {
+    let mut sample = Sample::key_a();
+    sample.n = 3;
+    sample.d = 2;
+    sample.h = vec![1, 0, 0];
+    sample.x = vec![0, 1, 2];
+    sample.positions = positions.to_vec();
+    sample.u = vec![1, 0, 0, 1, 1, 1];
+    sample.v = elements(&[3, 5, 7, 11, 13, 17]);
+    sample.r = element(19);
+    sample.s = element(23);
+    sample.alpha = elements(&[29, 31, 37, 41]);
+    sample.make_honest();
+    sample
+}
+
+#[test]
+fn example_09_positions_1_1_1() {
+    let (_, polynomials) = constraints_of(&three(&[1, 1, 1]));
+    assert_eq!(tops(&polynomials)[..3], [1, 0, 1]);
+}
+
+#[test]
+fn example_10_positions_0_1_3() {
+    let sample = three(&[0, 1, 3]);
+    let (_, polynomials) = constraints_of(&sample);
+    assert_eq!(tops(&polynomials), [0, 0, 1, 0]);
+    assert_eq!(sample.proof(), Err(Refusal::TopCoefficient));
+    assert_eq!(Refusal::TopCoefficient.number(), 8);
+    // The same key with the third position put right is solved.
+    assert!(three(&[0, 1, 2]).proof().is_ok());
+}
+
+#[test]
+fn example_11_key_a_positions_1_0() {
+    let mut sample = Sample::key_a();
+    sample.positions = vec![1, 0];
+    let (_, polynomials) = constraints_of(&sample);
+    assert_eq!(tops(&polynomials), [0, 0, 5]);
+    assert_eq!(sample.proof(), Err(Refusal::TopCoefficient));
+}
+
+#[test]
+fn example_12_positions_0_1_4() {
+    let sample = three(&[0, 1, 4]);
+    assert_eq!(sample.proof(), Err(Refusal::Position));
+    assert_eq!(Refusal::Position.number(), 7);
+    let mut t = [9; 6];
+    let mut polynomials = [9; 12 * 3 * 4];
+    let answer = constraints(
+        3,
+        1,
+        &sample.h,
+        &sample.x,
+        &sample.positions,
+        &sample.u,
+        &sample.v,
+        &mut t,
+        &mut polynomials,
+    );
+    assert_eq!(answer, Err(Refusal::Position));
+    assert_eq!((t, polynomials), ([9; 6], [9; 12 * 3 * 4]));
+}
+
+/// The file of key A as document 01 writes it, with the zero bytes of "0..".
+fn key_a_of_the_document() -> Vec<u8> {
+    let text = "01 0002 0201  02 0004 0002 0001  03 0004 0001 0002  05 0002 0007 \
+                06 0002 0101  07 0018 0005 0..  11 0030 0003 0.. 0004 0..  12 0000 \
+                13 0018 0002 0..  14 0048 0001 0.. 0002 0.. 0001 0..";
+    let zeros = "00".repeat(22);
+    let digits: String = text
+        .split_whitespace()
+        .map(|word| if word == "0.." { zeros.as_str() } else { word })
+        .collect();
+    (0..digits.len() / 2)
+        .map(|i| u8::from_str_radix(&digits[2 * i..2 * i + 2], 16).unwrap())
+        .collect()
+}
+
+#[test]
+fn file_of_key_a() {
+    let file = key_a_of_the_document();
+    assert_eq!(file.len(), 212);
+    assert_eq!(Sample::key_a().check_file().unwrap(), file);
+    let contents = Contents {
+        n: 2,
+        m: 1,
+        serial: 7,
+    };
+    assert_eq!(read_check_file(&file), Ok(contents));
+    assert_eq!(check(&file), Ok((contents, Verdict::Accepted)));
+    assert_eq!(perkcheck_line(&file), "serial 7 n 2 m 1 accepted\n");
+    let mut other = file.clone();
+    // The field 07 starts at byte 29; its content at byte 32.
+    assert_eq!((other[29], other[33]), (0x07, 5));
+    other[33] = 4;
+    assert_eq!(perkcheck_line(&other), "serial 7 n 2 m 1 rejected\n");
+    // The package is the file up to field 11.
+    assert_eq!(read_package(&file[..56]), Ok(contents));
+    assert_eq!(read_package(&file), Err(Refusal::BytesFollow));
+    assert_eq!(read_check_file(&file[..56]), Err(Refusal::BytesMissing));
+}
+
+#[test]
+fn edge_sizes() {
+    let mut bytes = key_a_of_the_document();
+    for n in [0, 1, 65] {
+        bytes[3] = n;
+        assert_eq!(perkcheck_line(&bytes), "refused 1\n");
+    }
+    // n = 64 passes, and then the length of H is not the stated one.
+    bytes[3] = 64;
+    assert_eq!(perkcheck_line(&bytes), "refused 11\n");
+    bytes[3] = 2;
+    bytes[4] = 2;
+    assert_eq!(perkcheck_line(&bytes), "refused 2\n");
+    bytes[4] = 0;
+    assert_eq!(perkcheck_line(&bytes), "refused 2\n");
+}
+
+#[test]
+fn edge_words() {
+    let mut bytes = key_a_of_the_document();
+    // The first element of H stands at byte 8.
+    bytes[8..10].copy_from_slice(&2047u16.to_be_bytes());
+    assert!(perkcheck_line(&bytes).starts_with("serial 7 "));
+    bytes[8..10].copy_from_slice(&2048u16.to_be_bytes());
+    assert_eq!(perkcheck_line(&bytes), "refused 4\n");
+    let mut out = element(9);
+    assert_eq!(sum(&element(2047), &element(1), &mut out), Ok(()));
+    assert_eq!(out, element(2046));
+    let refusal = sum(&element(2048), &element(1), &mut out);
+    assert_eq!(refusal, Err(Refusal::Coordinate));
+    assert_eq!(
+        (Refusal::KeyElement.number(), Refusal::Coordinate.number()),
+        (4, 6)
+    );
+    assert_eq!(out, element(2046));
+}
+
+#[test]
+fn edge_empty_file() {
+    assert_eq!(perkcheck_line(&[]), "refused 9\n");
+    assert_eq!(read_package(&[]), Err(Refusal::BytesMissing));
+}
+
+#[test]
+fn digits_highest_first() {
+    assert_eq!(digits(3, 3), [false, true, true]);
+    assert_eq!(digits(4, 3), [true, false, false]);
+    for (n, d) in [(2, 1), (3, 2), (4, 2), (5, 3), (8, 3), (9, 4), (64, 6)] {
+        assert_eq!(number_of_digits(n - 1), d);
+    }
+    // Without mask bits t is the digits of the positions.
+    let mut sample = three(&[1, 2, 3]);
+    sample.u.fill(0);
+    sample.make_honest();
+    assert_eq!(constraints_of(&sample).0, [0, 1, 1, 0, 1, 1]);
+    sample.u = vec![1, 0, 0, 0, 0, 1];
+    assert_eq!(constraints_of(&sample).0, [1, 1, 1, 0, 1, 0]);
+}
+
+/// z(i,j) by hand for d = 2, position 1, that is (0 1), and v = (2, 4): b is 1
+/// where the digits of position and column agree.
+#[test]
+fn coefficients_of_one_row() {
+    let v = large(&elements(&[2, 4]));
+    let row = [false, true];
+    // (X + 2) 4, (X + 2)(X + 4), 2 times 4, 2 (X + 4).
+    let stated = [[8, 4, 0], [8, 6, 1], [8, 0, 0], [8, 2, 0]];
+    for (j, stated) in stated.iter().enumerate() {
+        let z = z(&row, &v, j);
+        let words: Vec<u16> = (0..3)
+            .map(|power| z.coefficient(power).words()[0])
+            .collect();
+        assert_eq!(words, stated, "column {j}");
+    }
+}
+
+#[test]
+fn numbers_of_the_refusals() {
+    for (index, refusal) in Refusal::ALL.iter().enumerate() {
+        assert_eq!(refusal.number() as usize, index + 1);
+    }
+}

@@ -1,0 +1,217 @@
+//! prove and verify.
+
+use crate::{constraints_of, large, values_of, verdict_of};
+use reference::large_field::{COORDINATES, K};
+use reference::samples::{Generator, Sample};
+use reference::{Refusal, Verdict};
+
+/// Sizes with every d, powers of two and their neighbours.
+const SIZES: [(usize, usize); 16] = [
+    (2, 1),
+    (3, 1),
+    (3, 2),
+    (4, 2),
+    (5, 2),
+    (7, 6),
+    (8, 3),
+    (9, 1),
+    (12, 11),
+    (16, 4),
+    (17, 8),
+    (24, 3),
+    (32, 2),
+    (33, 16),
+    (63, 1),
+    (64, 27),
+];
+
+#[test]
+fn proofs_are_accepted() {
+    let mut generator = Generator::new(20);
+    for (n, m) in SIZES {
+        let sample = Sample::solving(n, m, &mut generator);
+        let (t, a) = sample.proof().expect("the positions solve the key");
+        assert_eq!(verdict_of(&sample, &t, &a), Verdict::Accepted);
+    }
+}
+
+#[test]
+fn proofs_are_accepted_at_zero() {
+    let mut generator = Generator::new(21);
+    for (n, m) in &SIZES[..10] {
+        let mut sample = Sample::solving(*n, *m, &mut generator);
+        sample.delta.fill(0);
+        sample.make_honest();
+        let (t, a) = sample.proof().expect("the positions solve the key");
+        assert_eq!(verdict_of(&sample, &t, &a), Verdict::Accepted);
+        if sample.d > 1 {
+            // Mask 0 counts fully, the others not at all.
+            sample.masks[3] ^= 1;
+            assert_eq!(verdict_of(&sample, &t, &a), Verdict::Rejected);
+            sample.masks[3] ^= 1;
+        }
+        if sample.d > 2 {
+            sample.masks[COORDINATES + 3] ^= 1;
+            assert_eq!(verdict_of(&sample, &t, &a), Verdict::Accepted);
+        }
+    }
+}
+
+#[test]
+fn the_proof_is_the_weighted_sum_with_the_mask() {
+    let mut generator = Generator::new(22);
+    for (n, m) in &SIZES[..12] {
+        let sample = Sample::solving(*n, *m, &mut generator);
+        let (t, polynomials) = constraints_of(&sample);
+        let (proof_t, a) = sample.proof().expect("the positions solve the key");
+        assert_eq!(proof_t, t);
+        let alpha = large(&sample.alpha);
+        let (r, s) = (large(&sample.r), large(&sample.s));
+        for (power, &coefficient) in large(&a).iter().enumerate() {
+            let mut stated = K::ZERO;
+            for (&alpha, polynomial) in alpha.iter().zip(&polynomials) {
+                stated = stated + alpha * polynomial[power];
+            }
+            if power < r.len() {
+                stated = stated + r[power];
+            }
+            if power > 0 {
+                stated = stated + s[power - 1];
+            }
+            assert_eq!(coefficient, stated, "coefficient {power} for n = {n}");
+        }
+    }
+}
+
+/// The equation with numbers that are not honest: verify accepts exactly the
+/// a for which it holds.
+#[test]
+fn the_equation_alone_decides() {
+    let mut generator = Generator::new(23);
+    let mut cases = 0;
+    for (n, m) in &SIZES[..12] {
+        for zero in 0..3 {
+            let mut sample = Sample::solving(*n, *m, &mut generator);
+            sample.h = generator.words(n * m);
+            sample.q = generator.words(sample.q.len());
+            sample.masks = generator.words(sample.masks.len());
+            match zero {
+                1 => sample.alpha.fill(0),
+                2 => sample.delta.fill(0),
+                _ => {}
+            }
+            let t = generator.bits(sample.u.len());
+            let delta = large(&sample.delta)[0];
+            let mut right = K::ZERO;
+            for (value, alpha) in values_of(&sample, &t).into_iter().zip(large(&sample.alpha)) {
+                right = right + value * alpha;
+            }
+            let mut power = K::ONE;
+            for mask in large(&sample.masks) {
+                right = right + power * mask;
+                power = power * delta;
+            }
+            // a(0) is what the other coefficients leave.
+            let mut a = large(&generator.words(COORDINATES * sample.d));
+            let mut others = K::ZERO;
+            let mut power = delta;
+            for &coefficient in &a[1..] {
+                others = others + coefficient * power;
+                power = power * delta;
+            }
+            a[0] = right + others;
+            let words: Vec<u16> = a.iter().flat_map(|a| a.words()).collect();
+            assert_eq!(verdict_of(&sample, &t, &words), Verdict::Accepted);
+            for place in 0..COORDINATES {
+                let mut other = words.clone();
+                other[place] ^= 1 << generator.below(11);
+                assert_eq!(verdict_of(&sample, &t, &other), Verdict::Rejected);
+                cases += 1;
+            }
+        }
+    }
+    assert_eq!(cases, 12 * 3 * COORDINATES);
+}
+
+/// The slices that are changed below.
+const SLICES: [&str; 8] = ["h", "x", "t", "q", "delta", "masks", "alpha", "a"];
+
+#[test]
+fn changed_slices_are_rejected() {
+    let mut generator = Generator::new(24);
+    let mut changed = [0; SLICES.len()];
+    let mut rejected = [0; SLICES.len()];
+    for (n, m) in &SIZES[..12] {
+        let sample = Sample::solving(*n, *m, &mut generator);
+        let (t, a) = sample.proof().expect("the positions solve the key");
+        for round in 0..12 * SLICES.len() {
+            let index = round % SLICES.len();
+            let (mut sample, mut t, mut a) = (sample.clone(), t.clone(), a.clone());
+            if SLICES[index] == "t" {
+                let place = generator.below(t.len());
+                t[place] ^= 1;
+            } else {
+                let slice = match SLICES[index] {
+                    "h" => &mut sample.h,
+                    "x" => &mut sample.x,
+                    "q" => &mut sample.q,
+                    "delta" => &mut sample.delta,
+                    "masks" => &mut sample.masks,
+                    "alpha" => &mut sample.alpha,
+                    _ => &mut a,
+                };
+                if slice.is_empty() {
+                    continue;
+                }
+                let place = generator.below(slice.len());
+                slice[place] ^= 1 + generator.below(2047) as u16;
+            }
+            changed[index] += 1;
+            if verdict_of(&sample, &t, &a) == Verdict::Rejected {
+                rejected[index] += 1;
+            }
+        }
+    }
+    for (index, name) in SLICES.iter().enumerate() {
+        let (changed, rejected) = (changed[index], rejected[index]);
+        assert!(changed >= 100, "{name}: {changed} changes");
+        // A change of a or of a mask number changes one side alone.
+        if ["masks", "a"].contains(name) {
+            assert_eq!(rejected, changed, "{name}");
+        }
+        assert!(
+            100 * rejected >= 95 * changed,
+            "{name}: {rejected} of {changed}"
+        );
+    }
+}
+
+#[test]
+fn tops_count_whatever_the_weights_are() {
+    let mut generator = Generator::new(25);
+    let mut refused = 0;
+    for (n, m) in &SIZES[..10] {
+        let mut sample = Sample::solving(*n, *m, &mut generator);
+        sample.alpha.fill(0);
+        assert!(sample.proof().is_ok());
+        sample.positions[0] = sample.positions[1];
+        assert_eq!(sample.proof(), Err(Refusal::TopCoefficient));
+        refused += 1;
+    }
+    assert_eq!(refused, 10);
+}
+
+#[test]
+fn a_wrong_top_in_each_polynomial_is_found() {
+    // One row of H at a time is not orthogonal; all weights are zero.
+    let mut generator = Generator::new(26);
+    for e in 0..4 {
+        let mut sample = Sample::solving(6, 4, &mut generator);
+        sample.alpha.fill(0);
+        let i = (0..6)
+            .find(|&i| sample.x[usize::from(sample.positions[i])] != 0)
+            .expect("x is not zero");
+        sample.h[6 * e + i] ^= 1;
+        assert_eq!(sample.proof(), Err(Refusal::TopCoefficient));
+    }
+}

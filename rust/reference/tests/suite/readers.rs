@@ -1,0 +1,290 @@
+//! The readers, the field of a package, and perkcheck's line.
+
+use reference::package::{check_file_field, join, CHECK_FILE_TAGS, PACKAGE_TAGS};
+use reference::samples::{Generator, Sample};
+use reference::vectors::Cases;
+use reference::{
+    check, field, field_range, perkcheck_line, read_check_file, read_package, write_check_file,
+    write_package, Contents, Refusal, Verdict,
+};
+use std::collections::BTreeMap;
+
+/// A second reader for comparison: it walks along the bytes and judges each
+/// field where it stands. Answers n, m and the serial, or a number.
+fn walk(bytes: &[u8], check_file: bool) -> Result<(usize, usize, u32), u32> {
+    let (mut n, mut m, mut d, mut serial) = (0, 0, 0, 0);
+    let mut at = 0;
+    let steps = if check_file { 10 } else { 6 };
+    for step in 0..steps {
+        let head = bytes.get(at..at + 3).ok_or(9u32)?;
+        let (tag, length) = match step {
+            0 => (0x01, 2),
+            1 => (0x02, 2 * m * n),
+            2 => (0x03, 2 * n),
+            3 => (0x05, 2),
+            4 => (0x06, n * d),
+            5 => (0x07, 24 * d),
+            6 => (0x11, 24 * n * d),
+            7 => (0x12, 24 * d - 24),
+            8 => (0x13, 24),
+            _ => (0x14, 24 * (n + m)),
+        };
+        if head[0] != tag {
+            return Err(10);
+        }
+        if usize::from(head[1]) * 256 + usize::from(head[2]) != length {
+            return Err(11);
+        }
+        let content = bytes.get(at + 3..at + 3 + length).ok_or(9u32)?;
+        // A word is above 2047 when its high byte is above 7.
+        let high = content.iter().step_by(2).any(|&byte| byte > 7);
+        match step {
+            0 => {
+                (n, m) = (usize::from(content[0]), usize::from(content[1]));
+                if !(2..65).contains(&n) {
+                    return Err(1);
+                }
+                if m < 1 || m >= n {
+                    return Err(2);
+                }
+                d = (1..7).find(|&d| 1 << d >= n).expect("n is at most 64");
+            }
+            1 | 2 if high => return Err(4),
+            3 => serial = u32::from(content[0]) << 8 | u32::from(content[1]),
+            4 if content.iter().any(|&byte| byte > 1) => return Err(5),
+            5.. if high => return Err(6),
+            _ => {}
+        }
+        at += 3 + length;
+    }
+    if at < bytes.len() {
+        return Err(12);
+    }
+    Ok((n, m, serial))
+}
+
+fn plain(answer: Result<Contents, Refusal>) -> Result<(usize, usize, u32), u32> {
+    answer
+        .map(|contents| (contents.n, contents.m, contents.serial))
+        .map_err(Refusal::number)
+}
+
+/// Samples of some sizes with small files.
+fn samples() -> Vec<Sample> {
+    let mut generator = Generator::new(40);
+    let mut samples = vec![Sample::key_a()];
+    for (n, m) in [(2, 1), (3, 2), (4, 1), (5, 2), (9, 4)] {
+        samples.push(Sample::solving(n, m, &mut generator));
+    }
+    samples
+}
+
+/// A random change of a file.
+fn change(bytes: &mut Vec<u8>, starts: &[usize], generator: &mut Generator) {
+    let length = bytes.len();
+    if length == 0 {
+        return;
+    }
+    let at = match generator.below(3) {
+        // Near the head of a field.
+        0 => (starts[generator.below(starts.len())] + generator.below(6)).min(length - 1),
+        _ => generator.below(length),
+    };
+    match generator.below(8) {
+        0 => bytes.truncate(at),
+        1 => bytes.resize(length + 1 + generator.below(4), 0),
+        2 => bytes.insert(at, generator.below(256) as u8),
+        3 => drop(bytes.remove(at)),
+        4 => bytes[at] = generator.below(256) as u8,
+        5 => bytes[at] ^= 1,
+        6 => bytes[at] = bytes[at].wrapping_add(1),
+        _ => bytes[at] = 8,
+    }
+}
+
+#[test]
+fn both_readers_agree_with_a_second_reader() {
+    let mut generator = Generator::new(41);
+    let mut package_answers: BTreeMap<u32, usize> = BTreeMap::new();
+    let mut check_answers = package_answers.clone();
+    for sample in samples() {
+        let fields = sample.fields().expect("the sample is solved");
+        let starts: Vec<usize> = (0..10).map(|i| join(&fields[..i]).len()).collect();
+        for round in 0..6_000 {
+            let check_file = round % 2 == 1;
+            let count = if check_file { 10 } else { 6 };
+            let mut bytes = join(&fields[..count]);
+            for _ in 0..generator.below(4) {
+                change(&mut bytes, &starts[..count], &mut generator);
+            }
+            assert_eq!(plain(read_package(&bytes)), walk(&bytes, false));
+            assert_eq!(plain(read_check_file(&bytes)), walk(&bytes, true));
+            let answer = walk(&bytes, check_file).err().unwrap_or(0);
+            let answers = if check_file {
+                &mut check_answers
+            } else {
+                &mut package_answers
+            };
+            *answers.entry(answer).or_default() += 1;
+        }
+    }
+    for answers in [package_answers, check_answers] {
+        let numbers: Vec<u32> = answers.keys().copied().collect();
+        assert_eq!(numbers, [0, 1, 2, 4, 5, 6, 9, 10, 11, 12], "{answers:?}");
+        assert!(answers.values().all(|&count| count >= 30), "{answers:?}");
+    }
+}
+
+#[test]
+fn random_bytes_agree_with_a_second_reader() {
+    let mut generator = Generator::new(42);
+    for _ in 0..20_000 {
+        let length = generator.below(40);
+        let mut bytes: Vec<u8> = (0..length).map(|_| generator.below(256) as u8).collect();
+        for (byte, right) in bytes.iter_mut().zip([1, 0, 2, 2, 1, 2, 0, 4]) {
+            if generator.below(8) > 0 {
+                *byte = right;
+            }
+        }
+        assert_eq!(plain(read_package(&bytes)), walk(&bytes, false));
+        assert_eq!(plain(read_check_file(&bytes)), walk(&bytes, true));
+    }
+}
+
+#[test]
+fn every_written_file_is_read_back() {
+    for sample in samples() {
+        let (t, a) = sample.proof().expect("the sample is solved");
+        let Sample { n, m, serial, .. } = sample;
+        let contents = Contents {
+            n,
+            m,
+            serial: u32::from(serial),
+        };
+        let package = write_package(n, m, &sample.h, &sample.x, serial, &t, &a);
+        assert_eq!(read_package(&package), Ok(contents));
+        let file = write_check_file(
+            n,
+            m,
+            &sample.h,
+            &sample.x,
+            serial,
+            &t,
+            &a,
+            &sample.q,
+            &sample.masks,
+            &sample.delta,
+            &sample.alpha,
+        );
+        assert_eq!(file, sample.check_file().unwrap());
+        assert_eq!(read_check_file(&file), Ok(contents));
+        assert_eq!(check(&file), Ok((contents, Verdict::Accepted)));
+    }
+}
+
+#[test]
+fn fields_of_packages() {
+    for sample in samples() {
+        let fields = sample.fields().expect("the sample is solved");
+        let package = join(&fields[..6]);
+        let mut end = 0;
+        let mut found = 0;
+        for tag in 0..=255 {
+            let range = field_range(&package, tag);
+            let part = field(&package, tag);
+            assert!(std::ptr::eq(part, &package[range.clone()]));
+            if PACKAGE_TAGS.contains(&tag) {
+                // The parts follow one another, with the heads between them.
+                assert_eq!(range.start, end + 3);
+                assert_eq!(package[end], tag);
+                assert_eq!(part, fields[found].content);
+                end = range.end;
+                found += 1;
+            } else {
+                assert_eq!(range, 0..0);
+            }
+        }
+        assert_eq!((found, end), (6, package.len()));
+    }
+}
+
+#[test]
+fn fields_of_refused_packages_are_empty() {
+    for sample in samples() {
+        let fields = sample.fields().expect("the sample is solved");
+        let package = join(&fields[..6]);
+        let mut refused = vec![Vec::new(), join(&fields)];
+        refused.extend((0..package.len()).map(|length| package[..length].to_vec()));
+        refused.push([package.clone(), vec![0]].concat());
+        let mut large = package.clone();
+        large[8] = 8;
+        refused.push(large);
+        for bytes in refused {
+            assert!(read_package(&bytes).is_err());
+            for tag in 0..=255 {
+                assert_eq!(field_range(&bytes, tag), 0..0);
+                assert!(std::ptr::eq(field(&bytes, tag), &bytes[0..0]));
+            }
+        }
+    }
+}
+
+#[test]
+fn fields_of_check_files() {
+    for sample in samples() {
+        let fields = sample.fields().expect("the sample is solved");
+        let file = join(&fields);
+        for (tag, written) in CHECK_FILE_TAGS.iter().zip(&fields) {
+            assert_eq!(check_file_field(&file, *tag), written.content);
+        }
+        assert_eq!(check_file_field(&file, 0x04), []);
+        assert_eq!(check_file_field(&file[..56], 0x02), []);
+    }
+}
+
+#[test]
+fn the_largest_file() {
+    let sample = Sample::solving(64, 63, &mut Generator::new(43));
+    let file = sample.check_file().expect("the sample is solved");
+    assert_eq!(file.len(), 21_162);
+    let line = format!("serial {} n 64 m 63 accepted\n", sample.serial);
+    assert_eq!(perkcheck_line(&file), line);
+}
+
+#[test]
+fn the_line_reads_32768_bytes() {
+    // Bytes after the limit are not read: the lines are those of the part.
+    let file = Sample::key_a().check_file().unwrap();
+    for length in [32_767, 32_768, 32_769, 70_000] {
+        let mut bytes = file.clone();
+        bytes.resize(length, 0x77);
+        assert_eq!(perkcheck_line(&bytes), "refused 12\n");
+        assert_eq!(perkcheck_line(&bytes), perkcheck_line(&bytes[..32_767]));
+    }
+}
+
+#[test]
+fn the_cases_have_every_answer() {
+    // Each case compares its stated line with the one that is printed.
+    let cases = Cases::all();
+    let mut answers: BTreeMap<String, usize> = BTreeMap::new();
+    for case in cases.list() {
+        let words: Vec<&str> = case.line.trim_end().split(' ').collect();
+        let answer = match words[..] {
+            ["refused", number] => number.to_string(),
+            ["serial", _, "n", _, "m", _, verdict] => verdict.to_string(),
+            _ => panic!("{}", case.line),
+        };
+        *answers.entry(answer).or_default() += 1;
+    }
+    for answer in ["1", "2", "4", "5", "6", "9", "10", "11", "12"] {
+        assert!(answers[answer] >= 5, "{answer}: {answers:?}");
+    }
+    assert!(answers["accepted"] >= 5 && answers["rejected"] >= 5);
+    assert_eq!(answers.len(), 11, "{answers:?}");
+    let cuts = cases
+        .list()
+        .iter()
+        .filter(|case| case.name.starts_with("cut_"));
+    assert_eq!(cuts.count(), 212);
+}

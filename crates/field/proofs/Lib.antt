@@ -5,3 +5,4 @@ pub mod Packing
 pub mod Limit
 pub mod Elements
 pub mod Lent
+pub mod Fields

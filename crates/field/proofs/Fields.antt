@@ -1,0 +1,22 @@
+-- F and K of every level: one is not zero in either, and F lies in K injectively. The ring laws are part of F and K.
+use mathlib.Core.Path.{_≡_, sym}
+use mathlib.Core.Bool.{Bool, true, false, false≢true}
+use Prim.Native.Nat.{ℕ, _<_}
+use Rattle.field.specs.Ring.{Ring, Hom}
+use Rattle.field.specs.Binary.{binary}
+use Rattle.field.specs.QuotientLaws.{one-not-zero, constant-injective}
+use Rattle.field.specs.declared.Level.{Level}
+use Rattle.field.specs.Level.{F, K, embed}
+
+module _ (l : Level) where
+  pub F-distinct : 0 < l .width → F l .one ≡ F l .zero → ⊥
+  unfolding F
+  F-distinct h = one-not-zero binary (l .width) (l .tap) h (λ e. false≢true (sym e))
+
+  pub K-distinct : 0 < l .width → 0 < l .coordinates → K l .one ≡ K l .zero → ⊥
+  unfolding K
+  K-distinct h k = one-not-zero (F l) (l .coordinates) (l .power) k (F-distinct h)
+
+  pub embed-injective : 0 < l .coordinates → (a b : F l .Carrier) → embed l .map a ≡ embed l .map b → a ≡ b
+  unfolding K embed
+  embed-injective k = constant-injective (F l) (l .coordinates) (l .power) k

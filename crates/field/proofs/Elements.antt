@@ -2,8 +2,10 @@
 use mathlib.Core.Path.{_≡_, refl, sym, _∙_, ap, ap₂, subst}
 use mathlib.Core.Bool.{Bool, true}
 use mathlib.Core.List.{List}
-use Prim.Native.Nat.{ℕ, zero, suc, _+_, _*_, _/_, _%_, _^_, _<_, _≤_}
+use Prim.Native.Nat.{ℕ, zero, suc, _+_, _-_, _*_, _/_, _%_, _^_, _<_, _≤_}
+use native.Mathlib.Nat.{zero-mul, one-mul}
 use native.Mathlib.Omega.{arith}
+use lib.Bits.{bitAnd}
 use borrow.Author.Tests.{leb-true}
 use lib.Dec.{leb}
 use lib.ListN.{length, getD, drop}
@@ -11,14 +13,16 @@ use lib.Seq.{getD-drop}
 use Rattle.lists.specs.Words.{all}
 use Rattle.lists.proofs.Words.{all-at}
 use Rattle.field.specs.Ring.{Ring, Hom}
-use Rattle.field.specs.RingLaws.{ring}
+use Rattle.field.specs.RingLaws.{mul-zero, zero-mul as 𝟘-mul, one-mul as 𝟙-mul}
+use Rattle.field.specs.Binary.{bit}
 use Rattle.field.specs.QuotientLaws.{constant-times, generator-times}
 use Rattle.field.specs.declared.Level.{Level}
 use Rattle.field.specs.Level.{F, K, embed, Y}
-use Rattle.field.specs.Word.{digits, number, small, word, element, words, within}
+use Rattle.field.specs.Word.{odd, digits, number, small, word, element, words, within}
 use Rattle.field.specs.Packed.{lane, coordinate, Holds, Tabulates}
-use Rattle.field.proofs.Number.{multiple, multiple-one, number-digits}
+use Rattle.field.proofs.Number.{multiple, multiple-none, multiple-one, number-digits}
 use Rattle.field.proofs.Coordinate.{at, upper, upper-start, upper-step, upper-end, wordAt, list-length, word-lt, word-scale, digits-word, read-written, written-read}
+use Rattle.field.proofs.Lanes.{lane-mask}
 use Rattle.field.proofs.Packing.{coordinate-is, coordinate-word, coordinates, coordinates-at}
 
 module _ (l : Level) where
@@ -107,3 +111,17 @@ module _ (l : Level) where
   pub holds-list : (ws : List ℕ) (x : K l .Carrier) → coordinates 0 (l .coordinates) ws ≡ words l x → Holds l ws x
   unfolding Holds
   holds-list ws x e i h = sym (coordinates-at n ws i h) ∙ ap (λ s. getD s i 0) e
+
+  -- the words of zero
+  pub zero-word : (i : ℕ) → i < l .coordinates → getD (words l (K l .zero)) i 0 ≡ 0
+  zero-word i h = ap (λ y. getD (words l y) i 0) (sym (mul-zero (K l) (embed l .map (small l 0)))) ∙ words-scaled 0 (K l .zero) i h ∙ multiple-none w t (digits w (getD (words l (K l .zero)) i 0))
+
+  -- all words of a, or none
+  masked-at : (a r : List ℕ) (b i : ℕ) → b < 2 → ((q : ℕ) → getD r q 0 ≡ bitAnd (getD a q 0) (b * (2 ^ 64 - 1))) → coordinate r i ≡ b * coordinate a i
+  masked-at a r b i h e = coordinate-is r i ∙ ap (λ y. lane y (i % 4)) (e (i / 4)) ∙ lane-mask 4 b (getD a (i / 4) 0) (i % 4) h (omega arith) ∙ ap (λ y. b * y) (sym (coordinate-is a i))
+
+  pub holds-masked : (a r : List ℕ) (b : ℕ) (x : K l .Carrier) → b < 2 → ((q : ℕ) → getD r q 0 ≡ bitAnd (getD a q 0) (b * (2 ^ 64 - 1))) → Holds l a x → Holds l r (K l .mul (bit (K l) (odd b)) x)
+  unfolding Holds
+  holds-masked a r zero x h e p i k = masked-at a r 0 i h e ∙ zero-mul (coordinate a i) ∙ sym (zero-word i k) ∙ ap (λ y. getD (words l y) i 0) (sym (𝟘-mul (K l) x))
+  holds-masked a r (suc zero) x h e p i k = masked-at a r 1 i h e ∙ one-mul (coordinate a i) ∙ p i k ∙ ap (λ y. getD (words l y) i 0) (sym (𝟙-mul (K l) x))
+  holds-masked a r (suc (suc b)) x h e p i k = absurd (omega arith)

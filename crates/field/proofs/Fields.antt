@@ -1,12 +1,13 @@
 -- F and K of every level: one is not zero in either, and F lies in K injectively. The ring laws are part of F and K.
 use mathlib.Core.Path.{_≡_, sym}
 use mathlib.Core.Bool.{Bool, true, false, false≢true}
-use Prim.Native.Nat.{ℕ, _<_}
+use Prim.Native.Nat.{ℕ, _^_, _≤_, _<_}
+use native.Mathlib.Omega.{arith}
 use Rattle.field.specs.Ring.{Ring, Hom}
 use Rattle.field.specs.Binary.{binary}
 use Rattle.field.specs.QuotientLaws.{one-not-zero, constant-injective}
 use Rattle.field.specs.declared.Level.{Level}
-use Rattle.field.specs.Level.{F, K, embed}
+use Rattle.field.specs.Level.{levelAt, F, K, embed}
 
 module _ (l : Level) where
   pub F-distinct : 0 < l .width → F l .one ≡ F l .zero → ⊥
@@ -20,3 +21,15 @@ module _ (l : Level) where
   pub embed-injective : 0 < l .coordinates → (a b : F l .Carrier) → embed l .map a ≡ embed l .map b → a ≡ b
   unfolding K embed
   embed-injective k = constant-injective (F l) (l .coordinates) (l .power) k
+
+-- bounds that hold at every level
+pub record Bounded (l : Level) : Type 0 where
+  pub width : 0 < l .width
+  pub coordinates : 0 < l .coordinates
+  pub most : l .most ≤ 64
+  pub narrow : l .coordinates ≤ 12
+  pub limit : l .limit < 2 ^ l .width
+
+pub bounded : (number : ℕ) → Bounded (levelAt number)
+unfolding levelAt
+bounded number = record { width = omega arith; coordinates = omega arith; most = omega arith; narrow = omega arith; limit = omega arith }

@@ -12,7 +12,7 @@ use Rattle.lists.proofs.Words.{part-whole, put-whole, all-at}
 use Rattle.refusal.specs.Answer.{firstOf}
 use Rattle.refusal.specs.declared.Answer.{Answer}
 use Rattle.refusal.specs.declared.Answer.the-variants.{Done}
-use Rattle.refusal.proofs.Answers.{none-first, none-others}
+use Rattle.refusal.proofs.Answers.{none}
 use Rattle.field.specs.Ring.{Ring}
 use Rattle.field.specs.Level.{first, K}
 use Rattle.field.specs.Word.{element, words, within}
@@ -50,28 +50,17 @@ module _ (a b out : List ℕ) where
   rows1 = (not (long b), 3) ∷ rows2
 
   pub lent : firstOf (rows a b out) ≡ Done → Lent a b out
-  lent e = record {
-    a-length = la;
-    b-length = lb;
-    out-length = eqb-true (length out) 12 (not-false (long out) (none-first (not (long out)) 3 rows3 e2));
-    a-words = within-words a la (not-false (within first a) (none-first (not (within first a)) 6 rows4 e3));
-    b-words = within-words b lb (not-false (within first b) (none-first (not (within first b)) 6 [] (none-others (not (within first a)) 6 rows4 e3)));
-  }
-    where
-      e1 : firstOf rows1 ≡ Done
-      e1 = none-others (not (long a)) 3 rows1 e
-
-      e2 : firstOf rows2 ≡ Done
-      e2 = none-others (not (long b)) 3 rows2 e1
-
-      e3 : firstOf rows3 ≡ Done
-      e3 = none-others (not (long out)) 3 rows3 e2
-
-      la : length a ≡ 12
-      la = eqb-true (length a) 12 (not-false (long a) (none-first (not (long a)) 3 rows1 e))
-
-      lb : length b ≡ 12
-      lb = eqb-true (length b) 12 (not-false (long b) (none-first (not (long b)) 3 rows2 e1))
+  lent e =
+      let f = none (rows a b out) e in
+      let la : length a ≡ 12 = eqb-true (length a) 12 (not-false (long a) (f .0)) in
+      let lb : length b ≡ 12 = eqb-true (length b) 12 (not-false (long b) (f .1 .0)) in
+      record {
+        a-length = la;
+        b-length = lb;
+        out-length = eqb-true (length out) 12 (not-false (long out) (f .1 .1 .0));
+        a-words = within-words a la (not-false (within first a) (f .1 .1 .1 .0));
+        b-words = within-words b lb (not-false (within first b) (f .1 .1 .1 .1 .0));
+      }
 
 -- an element stored in a slice as long
 pub stored : (s : List ℕ) {t : List ℕ} (x : K first .Carrier) → length s ≡ 12 → t ≡ put 0 (words first x) s → t ≡ words first x

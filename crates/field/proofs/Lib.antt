@@ -6,3 +6,5 @@ pub mod Limit
 pub mod Elements
 pub mod Lent
 pub mod Fields
+pub mod Tested
+pub mod Bits

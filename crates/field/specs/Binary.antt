@@ -62,3 +62,8 @@ binary = record {
   mul-one = and-true;
   mul-add = and-xor;
 }
+
+-- the two elements in any ring
+abbrev pub bit : (R : Ring) → Bool → R .Carrier
+bit R false = R .zero
+bit R true = R .one

@@ -1,14 +1,15 @@
 // The fields F and K of document 01, and the entries sum and product.
 ghost use mathlib.Core.Path.{_≡_};
-ghost use Prim.Native.Nat.{ℕ, _+_, _≤_};
+ghost use Prim.Native.Nat.{ℕ, _+_, _≤_, _<_};
 ghost use lib.Dec.{eqb};
 ghost use Rattle.refusal.specs.Answer.{firstOf};
 ghost use Rattle.field.specs.Entry.{rows, sumOutcome, productOutcome};
 ghost use lib.ListN.{length};
 ghost use Rattle.lists.specs.Words.{part, put};
 ghost use Rattle.field.specs.Ring.{Ring, Hom};
+ghost use Rattle.field.specs.Binary.{bit};
 ghost use Rattle.field.specs.Level.{levelAt, F, K, embed, Y};
-ghost use Rattle.field.specs.Word.{small, words, within};
+ghost use Rattle.field.specs.Word.{odd, small, words, within};
 ghost use Rattle.field.specs.Packed.{Holds, Tabulates};
 use refusal::Answer;
 use refusal::Refusal;
@@ -120,6 +121,18 @@ impl Element {
         ensures { λ r. ⌜ ((x y : K (levelAt level) .Carrier) → Holds (levelAt level) (self .words) x → Holds (levelAt level) (other .words) y → Holds (levelAt level) (r .words) (K (levelAt level) .mul x y)) ⌝ }
     {
         Multiples::of(self, level).times(other, level)
+    }
+
+    // The element where b is 1, and zero where it is 0.
+    pub fn masked(self, b: u64, level: usize) -> Element
+        requires { ⌜ b < 2 ⌝ }
+        ensures { λ r. ⌜ ((x : K (levelAt level) .Carrier) → Holds (levelAt level) (self .words) x → Holds (levelAt level) (r .words) (K (levelAt level) .mul (bit (K (levelAt level)) (odd b)) x)) ⌝ }
+    {
+        let a = self.words;
+        let mask = b * 0xffff_ffff_ffff_ffff;
+        Element {
+            words: [a[0] & mask, a[1] & mask, a[2] & mask],
+        }
     }
 
     // f, an element of F, times the element.

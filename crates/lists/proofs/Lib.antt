@@ -1,1 +1,3 @@
 pub mod Words
+pub mod Lent
+pub mod Concat

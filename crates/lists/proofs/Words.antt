@@ -3,10 +3,10 @@ use mathlib.Core.Path.{_≡_, refl, sym, ap, ap₂, _∙_, subst}
 use mathlib.Core.Bool.{Bool, true, false, _&&_}
 use mathlib.Core.List.{List, [], _∷_, _++_, append-nil, append-assoc}
 use Prim.Native.Nat.{ℕ, zero, suc, _+_, _≤_, _<_}
-use native.Mathlib.Nat.{add-zero}
+use native.Mathlib.Decide.{decLt}
 use native.Mathlib.Numerals.{add-one}
 use native.Mathlib.Omega.{arith}
-use lib.ListN.{length, getD, take, drop, set, drop-of-length-le, length-append, length-drop, length-take}
+use lib.ListN.{length, getD, take, drop, set, drop-of-length-le, length-append, length-drop, List·getD-eq-default}
 use borrow.Author.Count.{below-more}
 use lib.Seq.{take-all, take-suc, length-take-le, getD-take, getD-drop, getD-set-same, getD-set-other, paste}
 use Rattle.lists.specs.Words.{part, put, all}
@@ -69,3 +69,11 @@ module _ (p : ℕ → Bool) where
       right true b e = e
       right false true e = refl
       right false false e = e
+
+  -- past the end a list has zeros
+  pub all-everywhere : (s : List ℕ) → all p s ≡ true → p 0 ≡ true → (k : ℕ) → p (getD s k 0) ≡ true
+  all-everywhere s e z k = pick (decLt k (length s))
+    where
+      pick : Dec (k < length s) → p (getD s k 0) ≡ true
+      pick (yes h) = all-at s e k h
+      pick (no h) = ap p (List·getD-eq-default s 0 (omega arith)) ∙ z

@@ -1,7 +1,7 @@
 -- Parts of a list of words, and tests of all its words.
 use mathlib.Core.Bool.{Bool, true, false, _&&_}
 use mathlib.Core.List.{List, [], _∷_, _++_}
-use Prim.Native.Nat.{ℕ, _+_}
+use Prim.Native.Nat.{ℕ, zero, suc, _+_}
 use lib.ListN.{length, take, drop}
 
 -- the n words from place i on
@@ -16,3 +16,8 @@ put i b s = take i s ++ b ++ drop (i + length b) s
 unfoldable pub all : (ℕ → Bool) → List ℕ → Bool
 all p [] = true
 all p (x ∷ s) = p x && all p s
+
+-- f 0, f 1, .., f (n - 1), one after the other
+unfoldable pub concat : (n : ℕ) → (ℕ → List ℕ) → List ℕ
+concat zero f = []
+concat (suc n) f = concat n f ++ f n

@@ -2,6 +2,9 @@
 ghost use mathlib.Core.Path.{_≡_};
 ghost use Rattle.refusal.specs.Answer.{numbered};
 ghost use Rattle.field.specs.Entry.{sumOutcome, productOutcome};
+ghost use Rattle.field.specs.Level.{levelAt};
+ghost use Rattle.constraints.specs.Entry.{constraintsOutcome, valuesOutcome};
+use key::Key;
 
 // The sum of two elements of K.
 #[no_mangle]
@@ -17,4 +20,41 @@ pub extern "C" fn perk_product(a: &[u16], b: &[u16], out: &mut [u16]) -> u32
     ensures { λ r. ⌜ (r, now (out .exit)) ≡ numbered (productOutcome (now (a .entry)) (now (b .entry)) (now (out .entry))) ⌝ }
 {
     refusal::number(field::product(a, b, out))
+}
+
+// The masked witness and all polynomials.
+#[no_mangle]
+pub extern "C" fn perk_constraints(
+    n: usize,
+    m: usize,
+    h: &[u16],
+    x: &[u16],
+    positions: &[u8],
+    u: &[u8],
+    v: &[u16],
+    t: &mut [u8],
+    polynomials: &mut [u16],
+) -> u32
+    ensures { λ r. ⌜ (r, (now (t .exit), now (polynomials .exit))) ≡ numbered (constraintsOutcome (levelAt 1) (record { n = n; m = m }) (now (h .entry)) (now (x .entry)) (now (positions .entry)) (now (u .entry)) (now (v .entry)) (now (t .entry)) (now (polynomials .entry))) ⌝ }
+{
+    let key = Key { n, m };
+    refusal::number(constraints::constraints(key, h, x, positions, u, v, t, polynomials))
+}
+
+// All values.
+#[no_mangle]
+pub extern "C" fn perk_values(
+    n: usize,
+    m: usize,
+    h: &[u16],
+    x: &[u16],
+    t: &[u8],
+    q: &[u16],
+    delta: &[u16],
+    values: &mut [u16],
+) -> u32
+    ensures { λ r. ⌜ (r, now (values .exit)) ≡ numbered (valuesOutcome (levelAt 1) (record { n = n; m = m }) (now (h .entry)) (now (x .entry)) (now (t .entry)) (now (q .entry)) (now (delta .entry)) (now (values .entry))) ⌝ }
+{
+    let key = Key { n, m };
+    refusal::number(constraints::values(key, h, x, t, q, delta, values))
 }

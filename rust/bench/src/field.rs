@@ -87,6 +87,9 @@ fn independent<'a>(product: impl Fn(&[u16], &[u16], &mut [u16]) -> u32 + 'a) -> 
     })
 }
 
+/// The index of the row whose calls are independent.
+pub const INDEPENDENT: usize = 1;
+
 /// The rows.
 pub fn rows() -> Vec<Row<'static>> {
     vec![
@@ -94,19 +97,21 @@ pub fn rows() -> Vec<Row<'static>> {
             entry: "product",
             form: "chain",
             calls: [
-                chain(perk::product),
-                chain(packed::product),
-                chain(of_reference),
+                Some(chain(perk::product)),
+                Some(chain(packed::product)),
+                Some(chain(of_reference)),
             ],
+            products: 1,
         },
         Row {
             entry: "product",
             form: "independent",
             calls: [
-                independent(perk::product),
-                independent(packed::product),
-                independent(of_reference),
+                Some(independent(perk::product)),
+                Some(independent(packed::product)),
+                Some(independent(of_reference)),
             ],
+            products: 1,
         },
     ]
 }

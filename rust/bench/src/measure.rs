@@ -11,7 +11,7 @@ const REPETITION: Duration = Duration::from_micros(200);
 const REPETITIONS: usize = 2000;
 
 /// After this time an implementation of a row is not repeated any more.
-const LONGEST: Duration = Duration::from_secs(2);
+const LONGEST: Duration = Duration::from_secs(1);
 
 /// The implementations of a row, in the order of the columns.
 const IMPLEMENTATIONS: [&str; 3] = ["library", "Rust", "reference"];
@@ -25,9 +25,11 @@ pub struct Row<'a> {
     pub entry: &'static str,
     /// The sizes, or how the calls depend on each other.
     pub form: &'static str,
-    /// The calls of the library, of the same algorithm in Rust, and of the
-    /// reference.
-    pub calls: [Calls<'a>; 3],
+    /// The calls of the library, of the same algorithm in Rust where there is
+    /// one, and of the reference.
+    pub calls: [Option<Calls<'a>>; 3],
+    /// The number of products in K that one call of the library needs.
+    pub products: usize,
 }
 
 /// The time of a number of calls.
@@ -78,32 +80,56 @@ impl<'a> Repetitions<'a> {
     }
 }
 
+/// A number with some decimals, or a dash.
+fn decimal(number: Option<f64>, decimals: usize) -> String {
+    number.map_or("-".to_string(), |number| format!("{number:.decimals$}"))
+}
+
 /// Times the rows and prints the table. All rows and implementations take
-/// turns, so that a busy machine slows all of them down alike.
-pub fn print_table(rows: Vec<Row>) {
-    let mut measured: Vec<_> = rows
-        .into_iter()
-        .map(|row| (row.entry, row.form, row.calls.map(Repetitions::new)))
-        .collect();
+/// turns, so that a busy machine slows all of them down alike. The library's
+/// time of row `product` is the time of one product.
+pub fn print_table(rows: Vec<Row>, product: usize) {
+    let mut measured = Vec::new();
+    for row in rows {
+        let repetitions = row.calls.map(|calls| calls.map(Repetitions::new));
+        measured.push((row.entry, row.form, row.products, repetitions));
+    }
     for _ in 0..REPETITIONS {
-        for (_, _, implementations) in &mut measured {
-            implementations.iter_mut().for_each(Repetitions::repeat);
+        for (.., implementations) in &mut measured {
+            let present = implementations.iter_mut().flatten();
+            present.for_each(Repetitions::repeat);
         }
     }
 
-    println!("ns for one call, best of {REPETITIONS} repetitions; output buffers not cleared");
-    print!("{:<10} {:<12}", "entry", "calls");
+    println!(
+        "ns for one call, best of up to {REPETITIONS} repetitions; output buffers not cleared"
+    );
+    println!("products: those in K that the library needs, each taken at its time of an independent call");
+    print!("{:<11} {:<11}", "entry", "calls");
     for name in IMPLEMENTATIONS {
-        print!(" {name:>10}");
+        print!(" {name:>12}");
     }
-    println!(" {:>14} {:>18}", "library/Rust", "library/reference");
-    for (entry, form, implementations) in &measured {
-        let times = implementations.each_ref().map(Repetitions::nanoseconds);
-        print!("{entry:<10} {form:<12}");
-        for time in times {
-            print!(" {time:>10.1}");
+    print!(" {:>13} {:>18}", "library/Rust", "library/reference");
+    println!(" {:>9} {:>17}", "products", "library/products");
+
+    let times: Vec<[Option<f64>; 3]> = measured
+        .iter()
+        .map(|(.., implementations)| {
+            let present = implementations.each_ref().map(Option::as_ref);
+            present.map(|repetitions| repetitions.map(Repetitions::nanoseconds))
+        })
+        .collect();
+    let one_product = times[product][0];
+    let ratio = |a: Option<f64>, b: Option<f64>| Some(a? / b?);
+    for ((entry, form, products, _), times) in measured.iter().zip(&times) {
+        print!("{entry:<11} {form:<11}");
+        for &time in times {
+            print!(" {:>12}", decimal(time, 1));
         }
-        let [library, rust, reference] = times;
-        println!(" {:>14.3} {:>18.4}", library / rust, library / reference);
+        let [library, rust, reference] = *times;
+        let in_products = ratio(library, one_product).map(|ratio| ratio / *products as f64);
+        print!(" {:>13}", decimal(ratio(library, rust), 3));
+        print!(" {:>18}", decimal(ratio(library, reference), 4));
+        println!(" {products:>9} {:>17}", decimal(in_products, 3));
     }
 }

@@ -49,7 +49,17 @@ pub struct Case {
     pub outputs: Vec<Lent>,
     /// The answer, where the case is made for one.
     pub answer: Option<u32>,
-    /// The words of the first output after the call, where document 01 states
-    /// them.
-    pub stated: Option<Vec<u16>>,
+    /// What the outputs hold after the call, where document 01 states it.
+    pub stated: Option<Vec<Stated>>,
+}
+
+/// An element of an output that document 01 states.
+#[derive(Clone, Copy, Debug, PartialEq, Eq)]
+pub struct Stated {
+    /// The output, counted from 0.
+    pub output: usize,
+    /// The index of the element.
+    pub index: usize,
+    /// Its value.
+    pub value: u16,
 }

@@ -8,6 +8,9 @@ use std::fmt;
 /// has.
 const GUARD: usize = 32;
 
+/// The number of elements of a slice that are shown.
+const SHOWN: usize = 120;
+
 /// The buffer of one lent slice: guard, content, guard.
 #[derive(Clone, Debug)]
 pub struct Buffer<T> {
@@ -178,6 +181,24 @@ impl Lent {
         self.len() == 0
     }
 
+    /// An element.
+    pub fn element(&self, index: usize) -> u16 {
+        match self {
+            Lent::Bytes(buffer) => buffer.content()[index].into(),
+            Lent::Words(buffer) => buffer.content()[index],
+        }
+    }
+
+    /// Sets an element, in a slice of bytes to a value that is a byte.
+    pub fn set(&mut self, index: usize, value: u16) {
+        match self {
+            Lent::Bytes(buffer) => {
+                buffer.content_mut()[index] = value.try_into().expect("a byte");
+            }
+            Lent::Words(buffer) => buffer.content_mut()[index] = value,
+        }
+    }
+
     /// Changes the lowest bit of an element.
     pub fn alter(&mut self, index: usize) {
         match self {
@@ -197,14 +218,17 @@ impl Lent {
     }
 }
 
-/// The length, then the elements in decimal.
+/// The length, then the first elements in decimal.
 impl fmt::Display for Lent {
     fn fmt(&self, f: &mut fmt::Formatter<'_>) -> fmt::Result {
         write!(f, "({})", self.len())?;
-        match self {
-            Lent::Bytes(buffer) => buffer.content().iter().try_for_each(|x| write!(f, " {x}")),
-            Lent::Words(buffer) => buffer.content().iter().try_for_each(|x| write!(f, " {x}")),
+        for index in 0..self.len().min(SHOWN) {
+            write!(f, " {}", self.element(index))?;
         }
+        if self.len() > SHOWN {
+            write!(f, " ..")?;
+        }
+        Ok(())
     }
 }
 

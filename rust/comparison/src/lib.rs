@@ -5,7 +5,8 @@
 //! - [`lent`]: lent slices with guard words on both sides;
 //! - [`case`]: an entry, its groups of cases, and one case;
 //! - [`run`]: the calls, the comparisons and the report;
-//! - [`entries`]: the entries, one file for each group of entries.
+//! - [`entries`]: the entries, one file for each group of entries, and what
+//!   the entries that take a key have in common.
 //!
 //! A new entry needs its C function in [`perk`], a file in [`entries`], and a
 //! place in the list [`entries::ALL`].

@@ -3,9 +3,11 @@
 //!
 //! usage: compare [SEED] [--spoil N]
 //!
-//! `--spoil N` alters word N of one expected output, so that the run must find
-//! a difference and fail. The exit status is 0 when all groups passed, 1 when
-//! one failed or none ran, and 2 when the arguments are wrong.
+//! `--spoil N` alters word N of one expected output of each entry that has such
+//! a word, so that the run must find as many differences and fail; an entry
+//! then ends with the group of that output. The exit status is 0 when all
+//! groups passed, 1 when one failed or none ran, and 2 when the arguments are
+//! wrong.
 #![deny(missing_docs)]
 #![forbid(unsafe_code)]
 

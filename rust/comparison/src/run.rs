@@ -13,8 +13,12 @@ type Tally = BTreeMap<u32, usize>;
 /// A run over all entries.
 pub struct Run {
     seed: u64,
-    /// The word of an expected output that is still to be altered.
+    /// The word to alter in one expected output of each entry.
     spoil: Option<usize>,
+    /// Words that were altered.
+    altered: usize,
+    /// Altered words that were found.
+    found: usize,
     /// Calls of the library.
     calls: usize,
     /// Calls of the library that ended without a refusal.
@@ -69,9 +73,11 @@ fn reference_fault(case: &Case, expected: &After) -> Option<String> {
         let found = expected.answer;
         return Some(format!("the reference answers {found}, stated is {answer}"));
     }
-    let stated = case.stated.as_ref()?;
-    let found = expected.outputs[0].words();
-    (found != stated).then(|| format!("the reference writes {found:?}, stated is {stated:?}"))
+    let mut stated = case.stated.iter().flatten();
+    stated.find_map(|stated| {
+        let found = expected.outputs[stated.output].element(stated.index);
+        (found != stated.value).then(|| format!("the reference writes {found}: {stated:?}"))
+    })
 }
 
 /// What the library does otherwise than the reference: the answer, or the first
@@ -136,12 +142,15 @@ fn answers(tally: &Tally) -> String {
 }
 
 impl Run {
-    /// A run with this seed, in which word N of one expected output is altered
-    /// when `spoil` is N.
+    /// A run with this seed. When `spoil` is N, word N of one expected output
+    /// of each entry is altered, and an entry ends with the group where this is
+    /// done.
     pub fn new(seed: u64, spoil: Option<usize>) -> Run {
         Run {
             seed,
             spoil,
+            altered: 0,
+            found: 0,
             calls: 0,
             done: 0,
             passed: 0,
@@ -149,28 +158,33 @@ impl Run {
         }
     }
 
-    /// Calls library and reference with one case. Gives the library's answer,
-    /// and what differs.
-    fn compare(&mut self, entry: &Entry, case: &Case) -> (u32, Option<String>) {
+    /// Calls library and reference with one case, and alters word `spoil` of
+    /// what is expected if there is one. Gives the library's answer, and what
+    /// differs.
+    fn compare(
+        &mut self,
+        entry: &Entry,
+        case: &Case,
+        spoil: &mut Option<usize>,
+    ) -> (u32, Option<String>) {
         let found = called(entry.library, case);
         let mut expected = called(entry.reference, case);
         let done = entry.done.contains(&expected.answer);
         self.calls += 1;
         self.done += usize::from(done);
 
-        let fault = reference_fault(case, &expected);
-        let spoiled = done && self.spoil.is_some_and(|n| alter(&mut expected.outputs, n));
-        let note = if spoiled {
-            self.spoil = None;
-            " (altered by --spoil)"
-        } else {
-            ""
-        };
-        let fault = fault.or_else(|| {
-            let difference = difference(entry, case, &found, &expected)?;
-            Some(difference + note)
-        });
-        (found.answer, fault)
+        if let Some(fault) = reference_fault(case, &expected) {
+            return (found.answer, Some(fault));
+        }
+        let spoiled = done && spoil.is_some_and(|n| alter(&mut expected.outputs, n));
+        let mut difference = difference(entry, case, &found, &expected);
+        if spoiled {
+            *spoil = None;
+            self.altered += 1;
+            self.found += usize::from(difference.is_some());
+            difference = difference.map(|text| text + " (altered by --spoil)");
+        }
+        (found.answer, difference)
     }
 
     /// Counts a line of the report, and prints it.
@@ -185,13 +199,13 @@ impl Run {
     }
 
     /// Runs one group and gives its tally.
-    fn group(&mut self, entry: &Entry, group: &Group) -> Tally {
+    fn group(&mut self, entry: &Entry, group: &Group, spoil: &mut Option<usize>) -> Tally {
         let mut tally = Tally::new();
         let mut inputs = 0;
         let mut differences = 0;
         let mut generator = generator_of(self.seed, entry.name, group.name);
         (group.cases)(&mut generator, &mut |case| {
-            let (answer, difference) = self.compare(entry, &case);
+            let (answer, difference) = self.compare(entry, &case, spoil);
             *tally.entry(answer).or_default() += 1;
             if let Some(difference) = difference {
                 if differences == 0 {
@@ -228,9 +242,13 @@ impl Run {
         for answer in entry.done.iter().chain(entry.refusals) {
             total.insert(*answer, 0);
         }
+        let mut spoil = self.spoil;
         for group in entry.groups {
-            for (answer, count) in self.group(entry, group) {
+            for (answer, count) in self.group(entry, group, &mut spoil) {
                 *total.entry(answer).or_default() += count;
+            }
+            if spoil != self.spoil {
+                return;
             }
         }
         let mut faults = Vec::new();
@@ -253,12 +271,20 @@ impl Run {
 
     /// The word that `--spoil` names, where no expected output has had it.
     pub fn not_spoiled(&self) -> Option<usize> {
-        self.spoil
+        self.spoil.filter(|_| self.altered == 0)
     }
 
-    /// Ends the run: the share of calls without a refusal, then the last line.
-    /// Whether all passed.
+    /// How many words were altered, and how many of them were found.
+    pub fn altered_words(&self) -> (usize, usize) {
+        (self.altered, self.found)
+    }
+
+    /// Ends the run: how many altered words were found, the share of calls
+    /// without a refusal, then the last line. Whether all passed.
     pub fn finish(mut self) -> bool {
+        if self.spoil.is_some() {
+            println!("{} of {} altered words found", self.found, self.altered);
+        }
         let text = format!("{} of {} calls without a refusal", self.done, self.calls);
         let mut faults = Vec::new();
         if 3 * self.done < self.calls || self.calls == 0 {

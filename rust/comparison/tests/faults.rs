@@ -1,7 +1,7 @@
 //! The comparison finds each kind of fault: entries with one deliberate fault
 //! are run in the place of the library.
 
-use comparison::case::{Call, Case, Entry, Group};
+use comparison::case::{Call, Case, Entry, Group, Stated};
 use comparison::lent::Lent;
 use comparison::run::Run;
 use reference::samples::Generator;
@@ -181,6 +181,50 @@ fn reference_against_the_stated_answer() {
         cases: |generator, each| each(case(generator, &[1], 1, 5)),
     };
     assert!(!passes(entry(right, &[ALL, OTHER]), None));
+}
+
+#[test]
+fn reference_against_a_stated_element() {
+    const OTHER: Group = Group {
+        name: "other",
+        cases: |generator, each| {
+            for value in [1, 0] {
+                let stated = Stated {
+                    output: 0,
+                    index: 0,
+                    value,
+                };
+                each(Case {
+                    stated: Some(vec![stated]),
+                    ..case(generator, &[1], 1, 0)
+                });
+            }
+        },
+    };
+    assert!(!passes(entry(right, &[ALL, OTHER]), None));
+}
+
+/// A run over this entry twice with an altered word; the second time the
+/// function stands in the place of the library.
+fn altered_twice(library: Call) -> Run {
+    let mut run = Run::new(1, Some(0));
+    run.entry(&entry(right, &[ALL]));
+    run.entry(&entry(library, &[ALL]));
+    run
+}
+
+#[test]
+fn a_word_altered_in_each_entry() {
+    assert_eq!(altered_twice(right).altered_words(), (2, 2));
+    // This output is the altered one.
+    let run = altered_twice(|numbers, inputs, outputs| {
+        let answer = right(numbers, inputs, outputs);
+        if answer == 0 {
+            outputs[0].bytes_mut()[0] ^= 1;
+        }
+        answer
+    });
+    assert_eq!(run.altered_words(), (2, 1));
 }
 
 #[test]

@@ -1,7 +1,7 @@
 use mathlib.Core.Bool.{Bool, true, _&&_}
 use mathlib.Core.Path.{ap₂}
 use lib.Bits.{bitOr}
-use lib.Dec.{ltb, leb, eqb}
+use lib.Dec.{ltb, eqb, leb·suc-suc}
 use lib.Seq.{take-all}
 use Rattle.lists.specs.Words.{all}
 use Rattle.lists.proofs.Words.{all-more}
@@ -18,8 +18,9 @@ use Rattle.field.proofs.excess.Tie as tie
 use Rattle.field.proofs.excess.Reads as reads
 use Rattle.field.proofs.excess.Lts as lts
 
+-- above the limit, or not, by the digits
 abbrev below : ℕ → Bool
-below x = leb x 2047
+below x = ltb x 2048
 
 abbrev Inv-loop : tie.InvT-loop
 Inv-loop s level any₀ i₀ any i = (i ≤ length s) × (ltb any (2 ^ 11) ≡ all below (take i s))
@@ -51,7 +52,7 @@ loop-again c =
 
 returns : tie.Need-returns Inv-loop μ-loop
 unfolding within levelAt
-returns c = high-none 11 (c .before .loop .any) ∙ c .before .loop .inv .1 ∙ ap (λ s. all below s) (take-all (c .before .loop .i) (c .before .before .args .s .now) (omega arith))
+returns c = high-none 11 (c .before .loop .any) ∙ c .before .loop .inv .1 ∙ ap (λ s. all below s) (take-all (c .before .loop .i) (c .before .before .args .s .now) (omega arith)) ∙ ap (λ p. all p (c .before .before .args .s .now)) (λ k x. leb·suc-suc x 2047 k)
 
 pub excess-spec : {M : Type 1} → statement M
 excess-spec =

@@ -8,6 +8,7 @@ use Rattle.refusal.proofs.Answers.{pass, stop}
 use Rattle.field.specs.Level.{first, levelAt}
 use Rattle.field.specs.Word.{within}
 use Rattle.field.specs.Entry.{long, rows}
+use Rattle.field.proofs.Tested.{fine, above}
 use Rattle.field.proofs.Lent.{rows1, rows2, rows3, rows4}
 use Prim.Native.Nat.{ℕ, zero, suc, _+_, _-_, _*_, _/_, _%_, _^_, _≤_, _<_}
 use mathlib.Core.Path.{_≡_, refl, sym, ap, _∙_}
@@ -21,7 +22,7 @@ use Rattle.field.proofs.refused.Lts as lts
 use Rattle.field.proofs.Level.of.Reads as of-reads
 use Rattle.field.proofs.excess.Reads as excess-reads
 
--- a slice that is long enough, or not; words within the limit, or not
+-- a slice that is long enough, or not
 same : (s : List ℕ) {l : Level} → l ≡ levelAt 1 → length s ≡ l .coordinates → not (long s) ≡ false
 unfolding levelAt
 same s e h = ap not (eq-eqb (length s) 12 (h ∙ ap (λ (l : Level). l .coordinates) e))
@@ -29,14 +30,6 @@ same s e h = ap not (eq-eqb (length s) 12 (h ∙ ap (λ (l : Level). l .coordina
 other : (s : List ℕ) {l : Level} → l ≡ levelAt 1 → (length s ≡ l .coordinates → ⊥) → not (long s) ≡ true
 unfolding levelAt
 other s e h = ap not (ne-eqb (length s) 12 (λ n. h (n ∙ sym (ap (λ (l : Level). l .coordinates) e))))
-
-fine : (s : List ℕ) {r : ℕ} → eqb r 0 ≡ within (levelAt 1) s → r ≡ 0 → not (within first s) ≡ false
-unfolding levelAt
-fine s {r} e h = ap not (sym e ∙ eq-eqb r 0 h)
-
-above : (s : List ℕ) {r : ℕ} → eqb r 0 ≡ within (levelAt 1) s → (r ≡ 0 → ⊥) → not (within first s) ≡ true
-unfolding levelAt
-above s {r} e h = ap not (sym e ∙ ne-eqb r 0 h)
 
 -- the rows that are left where each test has been passed
 past1 : (c : tie.Else1) → let p = c .before .before .before .before .before .args in firstOf (rows (p .a .now) (p .b .now) (p .out .now)) ≡ firstOf (rows1 (p .a .now) (p .b .now) (p .out .now))
@@ -49,7 +42,8 @@ past3 : (c : tie.Else3) → let p = c .before .before .before .before .before .b
 past3 c = let p = c .before .before .before .before .before .before .before .args in past2 (c .before) ∙ pass 3 (rows3 (p .a .now) (p .b .now) (p .out .now)) (same (p .out .now) (c .before .before .before .of .ensures) (c .if3 .left))
 
 past4 : (c : tie.Else4) → let p = c .before .before .before .before .before .before .before .before .before .args in firstOf (rows (p .a .now) (p .b .now) (p .out .now)) ≡ firstOf (rows4 (p .a .now) (p .b .now) (p .out .now))
-past4 c = let p = c .before .before .before .before .before .before .before .before .before .args in past3 (c .before .before) ∙ pass 6 (rows4 (p .a .now) (p .b .now) (p .out .now)) (fine (p .a .now) (c .before .excess .ensures) (c .if4 .left))
+unfolding levelAt
+past4 c = let p = c .before .before .before .before .before .before .before .before .before .args in past3 (c .before .before) ∙ pass 6 (rows4 (p .a .now) (p .b .now) (p .out .now)) (fine (c .before .excess .ensures) (c .if4 .left))
 
 of-requires : tie.Need-of-requires
 of-requires c κs = search needs
@@ -67,16 +61,19 @@ excess-requires : tie.Need-excess-requires
 excess-requires c κs = search needs
 
 returns-4 : tie.Need-returns-4
-returns-4 c = let p = c .before .before .before .before .before .before .before .before .before .args in sym (past3 (c .before .before) ∙ stop 6 (rows4 (p .a .now) (p .b .now) (p .out .now)) (above (p .a .now) (c .before .excess .ensures) (c .if4 .taken)))
+unfolding levelAt
+returns-4 c = let p = c .before .before .before .before .before .before .before .before .before .args in sym (past3 (c .before .before) ∙ stop 6 (rows4 (p .a .now) (p .b .now) (p .out .now)) (above (c .before .excess .ensures) (c .if4 .taken)))
 
 excess-requires-2 : tie.Need-excess-requires-2
 excess-requires-2 c κs = search needs
 
 returns-5 : tie.Need-returns-5
-returns-5 c = let p = c .before .before .before .before .before .before .before .before .before .before .before .args in sym (past4 (c .before .before) ∙ stop 6 [] (above (p .b .now) (c .before .excess2 .ensures) (c .if5 .taken)))
+unfolding levelAt
+returns-5 c = let p = c .before .before .before .before .before .before .before .before .before .before .before .args in sym (past4 (c .before .before) ∙ stop 6 [] (above (c .before .excess2 .ensures) (c .if5 .taken)))
 
 returns-6 : tie.Need-returns-6
-returns-6 c = let p = c .before .before .before .before .before .before .before .before .before .before .before .args in sym (past4 (c .before .before) ∙ pass 6 [] (fine (p .b .now) (c .before .excess2 .ensures) (c .if5 .left)))
+unfolding levelAt
+returns-6 c = let p = c .before .before .before .before .before .before .before .before .before .before .before .args in sym (past4 (c .before .before) ∙ pass 6 [] (fine (c .before .excess2 .ensures) (c .if5 .left)))
 
 pub refused-spec : {M : Type 1} → statement M
 refused-spec =

@@ -1,15 +1,12 @@
 //! The entries sum and product in K.
 
-use crate::case::{Call, Case, Entry, Group};
+use super::{number, DONE};
+use crate::case::{Call, Case, Entry, Group, Stated};
 use crate::lent::Lent;
 use crate::perk;
 use reference::large_field::{COORDINATES, K};
 use reference::samples::Generator;
 use reference::small_field::F;
-use reference::Refusal;
-
-/// The answer without a refusal.
-const DONE: u32 = 0;
 
 /// 3: "a lent slice isn't of its stated length".
 const LENGTH: u32 = 3;
@@ -85,11 +82,6 @@ const fn entry(
 /// Both operands; a case with one input lends it twice.
 fn operands(inputs: &[Lent]) -> (&[u16], &[u16]) {
     (inputs[0].words(), inputs[inputs.len() - 1].words())
-}
-
-/// The number of an answer of the reference.
-fn number(answer: Result<(), Refusal>) -> u32 {
-    answer.map_or_else(Refusal::number, |()| DONE)
 }
 
 /// A case with these operands and an output of this length.
@@ -337,8 +329,13 @@ const RANDOM_FAULTS: Group = Group {
 
 /// A product that document 01 states.
 fn stated(generator: &mut Generator, a: &[u16], b: &[u16], product: &[u16]) -> Case {
+    let words = product.iter().enumerate().map(|(index, &value)| Stated {
+        output: 0,
+        index,
+        value,
+    });
     Case {
-        stated: Some(product.to_vec()),
+        stated: Some(words.collect()),
         ..right(generator, a, b)
     }
 }

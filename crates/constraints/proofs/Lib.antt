@@ -1,0 +1,15 @@
+pub mod Sums
+pub mod Coefficients
+pub mod Products
+pub mod Evaluation
+pub mod Agreement
+pub mod Place
+pub mod Count
+pub mod Join
+pub mod Solving
+pub mod Tops
+pub mod Truth
+pub mod Along
+pub mod Link
+pub mod Fine
+pub mod Done

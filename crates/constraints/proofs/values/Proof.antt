@@ -1,0 +1,58 @@
+use Rattle.refusal.proofs.Answers.{when-done, when-refused}
+use Rattle.field.specs.Level.{levelAt}
+use Rattle.constraints.specs.Slices.{valueWords}
+use Rattle.constraints.specs.Entry.{valuesRows, valuesOutcome, system}
+use Prim.Native.Nat.{ℕ, zero, suc, _+_, _-_, _*_, _/_, _%_, _^_, _≤_, _<_}
+use mathlib.Core.Path.{_≡_, refl, sym, ap, _∙_}
+use native.Mathlib.Omega.{arith}
+use lib.ListN.{length, getD, take, drop, set}
+use borrow.Author.Needs.{needs}
+use Rattle.constraints.proofs.values.Statement.{statement}
+use Rattle.constraints.proofs.values.Tie as tie
+use Rattle.constraints.proofs.values.Reads as reads
+use Rattle.constraints.proofs.values.Lts as lts
+use Rattle.constraints.proofs.values_refused.Reads as values-refused-reads
+use Rattle.constraints.proofs.values_work.Reads as values-work-reads
+
+values-refused-requires : tie.Need-values-refused-requires
+values-refused-requires c κs = search needs
+
+enum-told : tie.Need-enum-told
+enum-told c = search needs
+
+values-work-requires : tie.Need-values-work-requires
+values-work-requires c κs = sym (c .before .before .before .values-refused .ensures) ∙ c .before .enum-told .given .1
+
+enum-told-2 : tie.Need-enum-told-2
+enum-told-2 c = search needs
+
+same-length : tie.Need-same-length
+same-length c = search needs
+
+returns : tie.Need-returns
+unfolding valuesOutcome
+returns c =
+    let a = c .before .before .before .before .before .before .before .before .before .before .before .before .before .before .args in
+    when-done (valuesRows (levelAt 1) (a .key) (a .h .now) (a .x .now) (a .t .now) (a .q .now) (a .delta .now) (a .values .now)) (valueWords (levelAt 1) (system (levelAt 1) (a .key) (a .h .now) (a .x .now)) (a .t .now) (a .q .now) (a .delta .now)) (a .values .now) (c .before .before .before .before .before .before .values-refused .ensures) (c .before .before .before .before .enum-told .given .1) (c .before .before .values-work .ensures)
+
+same-length-2 : tie.Need-same-length-2
+same-length-2 c = search needs
+
+returns-2 : tie.Need-returns-2
+unfolding valuesOutcome
+returns-2 c =
+    let a = c .before .before .before .before .before .before .before .before .before .before .args in
+    when-refused (valuesRows (levelAt 1) (a .key) (a .h .now) (a .x .now) (a .t .now) (a .q .now) (a .delta .now) (a .values .now)) (valueWords (levelAt 1) (system (levelAt 1) (a .key) (a .h .now) (a .x .now)) (a .t .now) (a .q .now) (a .delta .now)) (a .values .now) (c .before .before .values-refused .ensures) (c .enum-told2 .given .1)
+
+pub values-spec : {M : Type 1} → statement M
+values-spec =
+    tie.close
+    (tie.spec
+    values-refused-requires
+    enum-told
+    values-work-requires
+    enum-told-2
+    same-length
+    returns
+    same-length-2
+    returns-2)

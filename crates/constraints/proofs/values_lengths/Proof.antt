@@ -1,0 +1,34 @@
+use mathlib.Core.List.{List, [], _∷_}
+use Rattle.lists.specs.Lent.{long}
+use Rattle.lists.proofs.Lent.{long-more, long-last}
+use Rattle.field.specs.Level.{levelAt}
+use Rattle.key.specs.declared.Lengths.{Lengths}
+use Rattle.constraints.specs.Entry.{valuesLent}
+use Prim.Native.Nat.{ℕ, zero, suc, _+_, _-_, _*_, _/_, _%_, _^_, _≤_, _<_}
+use mathlib.Core.Path.{_≡_, refl, sym, ap, _∙_}
+use native.Mathlib.Omega.{arith}
+use lib.ListN.{length, getD, take, drop, set}
+use borrow.Author.Needs.{needs}
+use Rattle.constraints.proofs.values_lengths.Statement.{statement}
+use Rattle.constraints.proofs.values_lengths.Tie as tie
+use Rattle.constraints.proofs.values_lengths.Reads as reads
+use Rattle.constraints.proofs.values_lengths.Lts as lts
+use Rattle.key.proofs.Key.lengths.Reads as lengths-reads
+
+lengths-requires : tie.Need-lengths-requires
+lengths-requires c κs = c .before .before .before .before .before .before .pre
+
+returns : tie.Need-returns
+returns c =
+    let a = c .before .before .before .before .before .before .before .before .before .before .before .before .before .args in
+    let n = c .before .before .before .before .before .before .lengths .result in
+    (long-more (a .h .now) (n .matrix) _ ((a .x .now, n .vector) ∷ (a .t .now, n .bits) ∷ (a .q .now, n .elements) ∷ (a .delta .now, n .one) ∷ (a .p .now, n .values) ∷ [])
+    (long-more (a .x .now) (n .vector) _ ((a .t .now, n .bits) ∷ (a .q .now, n .elements) ∷ (a .delta .now, n .one) ∷ (a .p .now, n .values) ∷ [])
+    (long-more (a .t .now) (n .bits) _ ((a .q .now, n .elements) ∷ (a .delta .now, n .one) ∷ (a .p .now, n .values) ∷ [])
+    (long-more (a .q .now) (n .elements) _ ((a .delta .now, n .one) ∷ (a .p .now, n .values) ∷ [])
+    (long-more (a .delta .now) (n .one) _ ((a .p .now, n .values) ∷ [])
+    (long-last (a .p .now) (n .values)))))))
+    ∙ ap (λ (n : Lengths). long ((a .h .now, n .matrix) ∷ (a .x .now, n .vector) ∷ (a .t .now, n .bits) ∷ (a .q .now, n .elements) ∷ (a .delta .now, n .one) ∷ (a .p .now, n .values) ∷ [])) (c .before .before .before .before .before .before .lengths .ensures)
+
+pub values-lengths-spec : {M : Type 1} → statement M
+values-lengths-spec = tie.close (tie.spec lengths-requires returns)

@@ -1,0 +1,10 @@
+pub mod Graded
+pub mod GradedLaws
+pub mod System
+pub mod Digits
+pub mod DigitsLaws
+pub mod Modelling
+pub mod Order
+pub mod Slices
+pub mod Truth
+pub mod Entry

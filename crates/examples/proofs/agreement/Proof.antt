@@ -1,0 +1,41 @@
+use mathlib.Core.List.{List}
+use Rattle.field.specs.Level.{levelAt}
+use Rattle.constraints.specs.Slices.{elementAt}
+use Rattle.constraints.proofs.Done.{values-done}
+use Prim.Native.Nat.{ℕ, zero, suc, _+_, _-_, _*_, _/_, _%_, _^_, _≤_, _<_}
+use mathlib.Core.Path.{_≡_, refl, sym, ap, _∙_}
+use native.Mathlib.Omega.{arith}
+use lib.ListN.{length, getD, take, drop, set}
+use borrow.Author.Needs.{needs}
+use Rattle.examples.proofs.agreement.Statement.{statement}
+use Rattle.examples.proofs.agreement.Tie as tie
+use Rattle.examples.proofs.agreement.Reads as reads
+use Rattle.examples.proofs.agreement.Lts as lts
+use Rattle.constraints.proofs.constraints.Reads as constraints-reads
+use Rattle.constraints.proofs.values.Reads as values-reads
+
+constraints-requires : tie.Need-constraints-requires
+constraints-requires c κs = search needs
+
+values-requires : tie.Need-values-requires
+values-requires c κs = search needs
+
+same-length : tie.Need-same-length
+same-length c = search needs
+
+same-length-2 : tie.Need-same-length-2
+same-length-2 c = search needs
+
+same-length-3 : tie.Need-same-length-3
+same-length-3 c = search needs
+
+returns : tie.Need-returns
+returns c written valued honest j l =
+    let a = c .before .before .before .before .before .before .before .before .before .before .before .before .before .before .before .before .before .before .before .before .before .before .args in
+    ap (λ (s : List ℕ). elementAt (levelAt 1) s j) (values-done (levelAt 1) (a .key) (a .h .now) (a .x .now) _ (a .q .now) (a .delta .now) (a .values .now) (c .before .before .values .ensures) valued)
+    ∙ c .before .before .before .before .before .before .before .before .before .constraints .ensures .1 written .agrees .each (a .q .now) (a .delta .now) honest j l
+
+pub agreement-spec : {M : Type 1} → statement M
+agreement-spec =
+    tie.close
+    (tie.spec constraints-requires values-requires same-length same-length-2 same-length-3 returns)

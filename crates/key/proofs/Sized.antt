@@ -1,0 +1,42 @@
+-- What holds of a key whose sizes are not refused, and of d.
+use mathlib.Core.Path.{_≡_, sym, _∙_, ap}
+use Prim.Native.Nat.{ℕ, _+_, _-_, _*_, _^_, _≤_, _<_}
+use native.Mathlib.Decide.{decLt}
+use native.Mathlib.Omega.{arith}
+use borrow.Author.Tests.{ltb-false, leb-false, eqb-false}
+use lib.Count.{leadingZeros, leading-length}
+use lib.Pow.{pow-mono}
+use Rattle.refusal.proofs.Answers.{None}
+use Rattle.field.specs.declared.Level.{Level}
+use Rattle.key.specs.declared.Key.{Key}
+use Rattle.key.specs.Key.{degree, sizes, Sized}
+
+pub sized : (l : Level) (key : Key) → None (sizes l key) → Sized l key
+sized l key e = record {
+  two = ltb-false (key .n) 2 (e .0);
+  most = ltb-false (l .most) (key .n) (e .1 .0);
+  some = omega (arith, eqb-false (key .m) 0 (e .1 .1 .0));
+  fewer = leb-false (key .n) (key .m) (e .1 .1 .1 .0);
+}
+
+-- n - 1 has d digits
+digits : (n : ℕ) → n < 2 ^ 64 → (n - 1 < 2 ^ degree n) × (2 ^ degree n ≤ 2 * (n - 1) + 1)
+unfolding degree
+digits n h = (omega (arith, found .2, ap (λ s. 2 ^ s) power), omega (arith, found .3, ap (λ s. 2 ^ s) power))
+  where
+    found : (m : ℕ) × (leadingZeros 64 (n - 1) + m ≡ 64) × (n - 1 < 2 ^ m) × (2 ^ m ≤ 2 * (n - 1) + 1)
+    found = leading-length 64 (n - 1) (omega arith)
+
+    power : 64 - leadingZeros 64 (n - 1) ≡ found .0
+    power = omega (arith, found .1)
+
+pub degree-fits : (n : ℕ) → n < 2 ^ 64 → n ≤ 2 ^ degree n
+degree-fits n h = omega (arith, digits n h)
+
+-- d is below k where n is at most 2^(k - 1)
+pub degree-lt : (n k : ℕ) → 0 < n → n < 2 ^ 64 → 2 * n ≤ 2 ^ k → degree n < k
+degree-lt n k p h b = pick (decLt (degree n) k)
+  where
+    pick : Dec (degree n < k) → degree n < k
+    pick (yes l) = l
+    pick (no g) = absurd (omega (arith, digits n h, pow-mono {i = k} {j = degree n} (omega arith)))

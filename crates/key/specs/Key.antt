@@ -1,0 +1,58 @@
+-- The key: its sizes, d, and when it is well formed.
+use mathlib.Core.Bool.{Bool, not}
+use mathlib.Core.List.{List, [], _∷_}
+use Prim.Native.Nat.{ℕ, _+_, _-_, _*_, _^_, _≤_, _<_}
+use lib.Count.{leadingZeros}
+use lib.Dec.{leb, ltb, eqb}
+use Rattle.field.specs.declared.Level.{Level}
+use Rattle.field.specs.Word.{within}
+use Rattle.lists.specs.Words.{all}
+use Rattle.key.specs.declared.Key.{Key}
+use Rattle.key.specs.declared.Lengths.{Lengths}
+
+-- "d is the number of binary digits of n - 1", of a number n below 2^64
+unfoldable pub degree : ℕ → ℕ
+degree n = 64 - leadingZeros 64 (n - 1)
+
+-- what a modelling fixes: the rows and places of the stored bits, the degree and the number of its constraints
+pub record Shape : Type 0 where
+  pub rows : ℕ
+  pub places : ℕ
+  pub degree : ℕ
+  pub size : ℕ
+
+-- digits: "w(i,k) is digit k of position i, k from 0 to d - 1", and "n + m polynomials" of "d + 1 coefficients" each
+abbrev pub shape : Key → Shape
+shape key = record { rows = key .n; places = degree (key .n); degree = degree (key .n); size = key .n + key .m }
+
+-- the lengths stated for the lent slices, in bytes or words
+abbrev pub lengths : Level → Key → Lengths
+lengths l key = record {
+  matrix = key .m * key .n;
+  vector = key .n;
+  positions = shape key .rows;
+  bits = shape key .rows * shape key .places;
+  elements = l .coordinates * (shape key .rows * shape key .places);
+  polynomials = l .coordinates * (shape key .size * (shape key .degree + 1));
+  values = l .coordinates * shape key .size;
+  one = l .coordinates;
+}
+
+-- place 'sizes': "n below 2 or above 64", 64 being the level's; "m is 0, or at least n"
+abbrev pub sizes : Level → Key → List (Bool × ℕ)
+sizes l key = (ltb (key .n) 2, 1) ∷ (ltb (l .most) (key .n), 1) ∷ (eqb (key .m) 0, 2) ∷ (leb (key .n) (key .m), 2) ∷ []
+
+-- "n is 2 to 64 and m is 1 to n - 1": what holds where none of them applies
+pub record Sized (l : Level) (key : Key) : Type 0 where
+  pub two : 2 ≤ key .n
+  pub most : key .n ≤ l .most
+  pub some : 0 < key .m
+  pub fewer : key .m < key .n
+
+-- place 'key': "an element of H or x is above 2047", the level's limit
+abbrev pub elements : Level → (h x : List ℕ) → List (Bool × ℕ)
+elements l h x = (not (within l h), 4) ∷ (not (within l x), 4) ∷ []
+
+-- every byte has at most k binary digits
+unfoldable pub below : ℕ → List ℕ → Bool
+below k s = all (λ b. ltb b (2 ^ k)) s

@@ -1,0 +1,112 @@
+// The key of document 01: its sizes and d, and the refusals that concern it.
+ghost use mathlib.Core.Path.{_≡_};
+ghost use Prim.Native.Nat.{_+_, _^_, _≤_, _<_};
+ghost use lib.Dec.{eqb};
+ghost use Rattle.refusal.specs.Answer.{firstOf};
+ghost use Rattle.field.specs.Level.{levelAt};
+ghost use Rattle.key.specs.Key.{degree, lengths, sizes, Sized, elements, below};
+use field::Level;
+use refusal::Answer;
+use refusal::Refusal;
+
+// The sizes of a key; H and x are lent beside it.
+pub struct Key {
+    pub n: usize,
+    pub m: usize,
+}
+
+// The lengths of lent slices, in bytes or words: H, x, positions, bits, elements of K for the correlations, all polynomials,
+// all values, and one element of K.
+pub struct Lengths {
+    pub matrix: usize,
+    pub vector: usize,
+    pub positions: usize,
+    pub bits: usize,
+    pub elements: usize,
+    pub polynomials: usize,
+    pub values: usize,
+    pub one: usize,
+}
+
+impl Key {
+    // The number of binary digits of n - 1.
+    pub fn degree(self) -> usize
+        requires { ⌜ 1 ≤ self .n ⌝ }
+        ensures { λ r. ⌜ r ≡ degree (self .n) ⌝ }
+    {
+        let last = self.n - 1;
+        (64 - usize::leading_zeros(last)) as usize
+    }
+
+    // The lengths of the slices lent with a key whose sizes are not refused.
+    pub fn lengths(self, level: usize) -> Lengths
+        requires { ⌜ Sized (levelAt level) self ⌝ }
+        ensures { λ r. ⌜ r ≡ lengths (levelAt level) self ⌝ }
+    {
+        let n = self.n;
+        let m = self.m;
+        let d = self.degree();
+        let w = Level::of(level).coordinates;
+        let bits = n * d;
+        let size = n + m;
+        Lengths {
+            matrix: m * n,
+            vector: n,
+            positions: n,
+            bits,
+            elements: w * bits,
+            polynomials: w * (size * (d + 1)),
+            values: w * size,
+            one: w,
+        }
+    }
+
+    // The first refusal of the sizes that applies.
+    pub fn sizes(self, level: usize) -> Answer
+        ensures { λ r. ⌜ r ≡ firstOf (sizes (levelAt level) self) ⌝ }
+    {
+        let n = self.n;
+        let m = self.m;
+        if n < 2 {
+            return Answer::Refused(Refusal::SIZE);
+        }
+        let most = Level::of(level).most;
+        if most < n {
+            return Answer::Refused(Refusal::SIZE);
+        }
+        if m == 0 {
+            return Answer::Refused(Refusal::ROWS);
+        }
+        if n <= m {
+            return Answer::Refused(Refusal::ROWS);
+        }
+        Answer::Done
+    }
+}
+
+// The first refusal of the elements of H and x that applies.
+pub fn elements(h: &[u16], x: &[u16], level: usize) -> Answer
+    ensures { λ r. ⌜ r ≡ firstOf (elements (levelAt level) (now (h .entry)) (now (x .entry))) ⌝ }
+{
+    if field::excess(h, level) != 0 {
+        return Answer::Refused(Refusal::KEY);
+    }
+    if field::excess(x, level) != 0 {
+        return Answer::Refused(Refusal::KEY);
+    }
+    Answer::Done
+}
+
+// Zero exactly when every byte of s is below 2^digits.
+pub fn over(s: &[u8], digits: usize) -> u8
+    requires { ⌜ digits < 8 ⌝ }
+    ensures { λ r. ⌜ eqb r 0 ≡ below digits (now (s .entry)) ⌝ }
+{
+    let mut any: u8 = 0;
+    let mut i: usize = 0;
+    while i < s.len() {
+        any = any | s[i];
+        i += 1;
+    }
+    any >> digits
+}

@@ -1,11 +1,10 @@
 -- What crate rows writes is what the definitions say.
 use mathlib.Core.Path.{_≡_, refl, sym, _∙_, ap, ap₂}
-use mathlib.Core.Bool.{Bool, true, false, not, cond}
+use mathlib.Core.Bool.{Bool, not, cond}
 use mathlib.Core.List.{List, [], _∷_, _++_}
-use Prim.Native.Nat.{ℕ, zero, suc, _+_, _-_, _*_, _/_, _%_, _^_, _<_, _≤_}
+use Prim.Native.Nat.{ℕ, zero, suc, _+_, _-_, _*_, _%_, _<_}
 use native.Mathlib.Nat.{mul-comm, mul-zero, mod-eq-of-lt}
 use native.Mathlib.Numerals.{add-one}
-use native.Mathlib.Omega.{arith}
 use lib.Dec.{eqb, eqb·zero-suc, eqb·suc-zero, eqb·suc-suc}
 use lib.ListN.{length, getD}
 use Rattle.lists.specs.Words.{part, concat}
@@ -21,11 +20,11 @@ use Rattle.rows.specs.Elements.{el, Bits}
 use Rattle.rows.specs.Polynomial as R
 use Rattle.rows.specs.Outcome as O
 use Rattle.key.specs.Key.{degree}
-use Rattle.constraints.specs.Graded.{summed, sigma, total, product, power, Polynomial, coefficient, linear, raised, polynomials, point}
+use Rattle.constraints.specs.Graded.{summed, sigma, product, power, Polynomial, coefficient, linear, raised, polynomials, point}
 use Rattle.constraints.specs.System.{System, masked, polynomial, value}
-use Rattle.constraints.specs.Digits.{Instance, digitIn, digit, witness, factor, z, column, x′, row, join, constraint}
+use Rattle.constraints.specs.Digits.{Instance, digitIn, digit, witness, factor, z, column, x′, row, constraint}
 use Rattle.constraints.specs.Modelling.{digits}
-use Rattle.constraints.specs.Slices.{bits, smallAt, elementAt, elements, keyOf, systemOf, positionAt, witnessOf, maskedBytes, polynomialWords, valueWords}
+use Rattle.constraints.specs.Slices.{bits, smallAt, elementAt, elements, keyOf, systemOf, witnessOf, maskedBytes, polynomialWords, valueWords}
 use Rattle.constraints.proofs.Coefficients.{coefficient-column, coefficient-row, coefficient-x′}
 use Rattle.constraints.proofs.Products.{tail, z-tail, point-reversed}
 use Rattle.constraints.proofs.Join.{join-left, join-right}

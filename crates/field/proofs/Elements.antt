@@ -1,24 +1,19 @@
 -- Elements of K by their words, at every level.
-use mathlib.Core.Path.{_≡_, refl, sym, _∙_, ap, ap₂, subst}
-use mathlib.Core.Bool.{Bool, true}
+use mathlib.Core.Path.{_≡_, sym, _∙_, ap, ap₂, subst}
 use mathlib.Core.List.{List}
 use Prim.Native.Nat.{ℕ, zero, suc, _+_, _-_, _*_, _/_, _%_, _^_, _<_, _≤_}
 use native.Mathlib.Nat.{zero-mul, one-mul}
 use native.Mathlib.Omega.{arith}
 use lib.Bits.{bitAnd}
-use borrow.Author.Tests.{leb-true}
-use lib.Dec.{leb}
 use lib.ListN.{length, getD, drop}
 use lib.Seq.{getD-drop}
 use Rattle.lists.specs.Words.{all}
-use Rattle.lists.proofs.Words.{all-at}
-use Rattle.field.specs.Ring.{Ring, Hom}
 use Rattle.field.specs.RingLaws.{mul-zero, zero-mul as 𝟘-mul, one-mul as 𝟙-mul}
 use Rattle.field.specs.Binary.{bit}
 use Rattle.field.specs.QuotientLaws.{constant-times, generator-times}
 use Rattle.field.specs.declared.Level.{Level}
 use Rattle.field.specs.Level.{F, K, embed, Y}
-use Rattle.field.specs.Word.{odd, digits, number, small, word, element, words, within}
+use Rattle.field.specs.Word.{odd, digits, small, word, element, words, within}
 use Rattle.field.specs.Packed.{lane, coordinate, Holds, Tabulates}
 use Rattle.field.proofs.Number.{multiple, multiple-none, multiple-one, number-digits}
 use Rattle.field.proofs.Coordinate.{at, upper, upper-start, upper-step, upper-end, wordAt, list-length, word-lt, word-scale, digits-word, read-written, written-read}

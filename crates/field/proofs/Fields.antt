@@ -1,9 +1,8 @@
 -- F and K of every level: one is not zero in either, and F lies in K injectively. The ring laws are part of F and K.
 use mathlib.Core.Path.{_≡_, sym}
-use mathlib.Core.Bool.{Bool, true, false, false≢true}
+use mathlib.Core.Bool.{true, false, false≢true}
 use Prim.Native.Nat.{ℕ, _^_, _≤_, _<_}
 use native.Mathlib.Omega.{arith}
-use Rattle.field.specs.Ring.{Ring, Hom}
 use Rattle.field.specs.Binary.{binary}
 use Rattle.field.specs.QuotientLaws.{one-not-zero, constant-injective}
 use Rattle.field.specs.declared.Level.{Level}

@@ -1,12 +1,12 @@
 -- What the operations on a number do to each of its lanes of sixteen bits, however many there are.
-use mathlib.Core.Path.{_≡_, refl, sym, _∙_, ap, ap₂, subst}
+use mathlib.Core.Path.{_≡_, refl, sym, _∙_, ap, ap₂}
 use Prim.Native.Nat.{ℕ, zero, suc, _+_, _-_, _*_, _/_, _%_, _^_, _<_, _≤_}
 use native.Mathlib.Nat.{mul-add, mul-assoc, add-comm, mul-mod-left, mod-eq-of-lt, zero-mul, one-mul, mul-one}
 use native.Mathlib.Decide.{decLt}
 use native.Mathlib.Omega.{arith}
 use lib.Bits.{bitXor, bitAnd, xor-mod, xor-shr, and-mod, and-shr, and-mask}
 use Rattle.field.specs.Packed.{lane}
-use lib.Pow.{split, high, low, field, mod-mod-pow, mod-pow-add, shr-shr, shl-shr, pow-pos, pow-add}
+use lib.Pow.{split, high, low, field, mod-mod-pow, mod-pow-add, shr-shr, shl-shr, pow-add}
 
 pub lane-lt : (x j : ℕ) → lane x j < 65536
 unfolding lane

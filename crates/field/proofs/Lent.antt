@@ -1,22 +1,19 @@
 -- What holds of the slices lent to sum and product where no refusal applies, and what they then hold.
-use mathlib.Core.Path.{_≡_, refl, sym, _∙_, ap}
-use mathlib.Core.Bool.{Bool, true, false, not}
+use mathlib.Core.Path.{_≡_, sym, _∙_}
+use mathlib.Core.Bool.{Bool, true, not}
 use mathlib.Core.List.{List, [], _∷_}
-use Prim.Native.Nat.{ℕ, _+_, _^_, _<_, _≤_}
+use Prim.Native.Nat.{ℕ, _^_, _<_}
 use native.Mathlib.Omega.{arith}
 use borrow.Author.Tests.{eqb-true, leb-true, not-false}
-use lib.Dec.{eqb, leb}
+use lib.Dec.{leb}
 use lib.ListN.{length, getD}
-use Rattle.lists.specs.Words.{part, put, all}
+use Rattle.lists.specs.Words.{part, put}
 use Rattle.lists.proofs.Words.{part-whole, put-whole, all-at}
 use Rattle.refusal.specs.Answer.{firstOf}
-use Rattle.refusal.specs.declared.Answer.{Answer}
 use Rattle.refusal.specs.declared.Answer.the-variants.{Done}
 use Rattle.refusal.proofs.Answers.{none}
-use Rattle.field.specs.Ring.{Ring}
 use Rattle.field.specs.Level.{first, K}
 use Rattle.field.specs.Word.{element, words, within}
-use Rattle.field.specs.Packed.{Holds}
 use Rattle.field.specs.Entry.{long, rows}
 use Rattle.field.proofs.Elements.{words-length, words-element-lt}
 

@@ -2,7 +2,7 @@
 use mathlib.Core.Path.{_≡_, refl, sym, _∙_, ap, ap₂, subst}
 use mathlib.Core.Bool.{Bool, true, false, cond}
 use Prim.Native.Nat.{ℕ, zero, suc, _+_, _-_, _*_, _/_, _%_, _^_, _<_, _≤_}
-use native.Mathlib.Nat.{zero-mul, one-mul, mul-zero, mul-comm, pow-suc, mod-one, mod-lt, mul-le-mul-right}
+use native.Mathlib.Nat.{zero-mul, one-mul, mul-zero, mul-comm, pow-suc, mod-lt, mul-le-mul-right}
 use native.Mathlib.Omega.{arith}
 use lib.Arith.{mod-mul}
 use lib.Bits.{bitXor, differ, xor-step, xor-lt, xor-block, xor-zero-r, xor-shifted}
@@ -13,7 +13,7 @@ use Rattle.field.specs.Binary.{binary, xor}
 use Rattle.field.specs.Vector.{Vector, zeros, unit, sum, scale, push, top}
 use Rattle.field.specs.VectorLaws.{zero-scale, one-scale, sum-zeros}
 use Rattle.field.specs.Quotient.{rule, timesX, times, generator}
-use Rattle.field.specs.QuotientLaws.{times-unit, generator-times}
+use Rattle.field.specs.QuotientLaws.{generator-times}
 use Rattle.field.specs.Extension.{extend}
 use Rattle.field.specs.Word.{odd, digits, number}
 

@@ -8,19 +8,18 @@ use native.Mathlib.Nat.{mul-comm, mul-one, mul-le-mul-left, mod-eq-of-lt, lt-of-
 use native.Mathlib.Numerals.{add-one}
 use native.Mathlib.Omega.{arith}
 use lib.Bits.{bitXor, bitAnd, xor-zero-r, and-mask}
-use lib.ListN.{getD, drop}
+use lib.ListN.{getD}
 use lib.Pow.{shr-lt, shr-shr, pow-mono}
-use lib.Seq.{getD-drop}
 use Rattle.field.specs.Ring.{Ring}
 use Rattle.field.specs.Binary.{binary}
 use Rattle.field.specs.Vector.{Vector, sum, scale}
-use Rattle.field.specs.Quotient.{rule, timesX}
+use Rattle.field.specs.Quotient.{timesX}
 use Rattle.field.specs.Extension.{extend}
 use Rattle.field.specs.Word.{digits, number}
 use Rattle.field.specs.Packed.{lane, coordinate}
 use Rattle.field.proofs.Number.{multiple, multiple-more}
-use Rattle.field.proofs.Coordinate.{at, wordAt, word-at, word-lt, word-sum, word-scale, word-Y-zero, word-Y-tap, word-Y-other}
-use Rattle.field.proofs.Lanes.{lane-xor, lane-and, lane-mul, lane-digit, lane-cut, lane-zero, lane-put-at, lane-put-other, lane-mask}
+use Rattle.field.proofs.Coordinate.{at, wordAt, word-sum, word-scale, word-Y-zero, word-Y-tap, word-Y-other}
+use Rattle.field.proofs.Lanes.{lane-xor, lane-and, lane-mul, lane-digit, lane-cut, lane-put-at, lane-put-other, lane-mask}
 
 -- a lane, by a shift
 pub lane-shift : (x j : ℕ) → lane x j ≡ x / 2 ^ (16 * j) % 65536

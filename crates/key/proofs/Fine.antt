@@ -1,6 +1,6 @@
 -- What holds of lent words and bytes that no refusal concerns, at every place: past the end a list has zeros.
-use mathlib.Core.Path.{_≡_, sym}
-use mathlib.Core.Bool.{Bool, true, false, not}
+use mathlib.Core.Path.{_≡_}
+use mathlib.Core.Bool.{false, not}
 use mathlib.Core.List.{List}
 use Prim.Native.Nat.{ℕ, _^_, _≤_, _<_}
 use native.Mathlib.Omega.{arith}
@@ -8,7 +8,6 @@ use borrow.Author.Tests.{le-leb, leb-true, lt-ltb, ltb-true, not-false}
 use lib.Dec.{leb, ltb}
 use lib.ListN.{getD}
 use lib.Pow.{pow-pos}
-use Rattle.lists.specs.Words.{all}
 use Rattle.lists.proofs.Words.{all-everywhere}
 use Rattle.field.specs.declared.Level.{Level}
 use Rattle.field.specs.Word.{within}

@@ -2,27 +2,21 @@
 use mathlib.Core.Path.{_≡_, sym, _∙_, ap, subst}
 use mathlib.Core.Bool.{true}
 use mathlib.Core.List.{List}
-use Prim.Native.Nat.{ℕ, zero, suc, _+_, _-_, _*_, _/_, _%_, _^_, _≤_, _<_}
+use Prim.Native.Nat.{ℕ, zero, suc, _+_, _-_, _*_, _^_, _≤_, _<_}
 use native.Mathlib.Decide.{decLt}
-use native.Mathlib.Nat.{min-le-left, lt-of-lt-of-le, zero-mul, one-mul, mul-le-mul-left, mul-le-mul-right, le-trans, lt-of-le-of-lt}
+use native.Mathlib.Nat.{min-le-left, lt-of-lt-of-le, one-mul, mul-le-mul-left, mul-le-mul-right, le-trans, lt-of-le-of-lt}
 use native.Mathlib.Omega.{arith}
 use borrow.Author.Tests.{leb-true}
-use lib.Bits.{bitAnd}
 use lib.Dec.{leb}
 use lib.ListN.{length, getD, drop, length-take, length-drop, List·getD-eq-default}
 use lib.Pow.{pow-pos}
 use lib.Seq.{ext-getD}
 use Rattle.lists.specs.Words.{part, put}
 use Rattle.lists.proofs.Words.{part-at, part-length, put-length, all-at}
-use Rattle.field.specs.Binary.{bit}
-use Rattle.field.specs.RingLaws.{zero-mul as ring-zero-mul, one-mul as ring-one-mul, mul-zero}
 use Rattle.field.specs.declared.Level.{Level}
-use Rattle.field.specs.Level.{K, embed}
-use Rattle.field.specs.Word.{odd, digits, small, element, words, within}
-use Rattle.field.specs.Packed.{lane, coordinate, Holds}
-use Rattle.field.proofs.Number.{multiple-none}
-use Rattle.field.proofs.Lanes.{lane-mask}
-use Rattle.field.proofs.Packing.{coordinate-is}
+use Rattle.field.specs.Level.{K}
+use Rattle.field.specs.Word.{element, words, within}
+use Rattle.field.specs.Packed.{coordinate, Holds}
 use Rattle.field.proofs.Elements.{words-length, words-lt, element-words, words-element-lt, zero-word}
 use Rattle.rows.specs.Lists.{tab}
 use Rattle.rows.specs.Elements.{el, Fits, Words, Within, valueOf, Held}

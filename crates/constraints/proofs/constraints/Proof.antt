@@ -1,7 +1,5 @@
 use mathlib.Core.Path.{ap₂, subst₂}
 use mathlib.Core.List.{List}
-use Rattle.refusal.specs.declared.Answer.{Answer}
-use Rattle.refusal.specs.declared.Answer.the-variants.{Done, Refused}
 use Rattle.refusal.proofs.Answers.{when-done, when-refused, not-both}
 use Rattle.field.specs.Level.{levelAt}
 use Rattle.field.proofs.Fields.{bounded}
@@ -10,17 +8,12 @@ use Rattle.constraints.specs.Truth.{Truth}
 use Rattle.constraints.specs.Entry.{constraintsRows, constraintsOutcome, system}
 use Rattle.constraints.proofs.Fine.{constraints-fine}
 use Rattle.constraints.proofs.Truth.{truth}
-use Prim.Native.Nat.{ℕ, zero, suc, _+_, _-_, _*_, _/_, _%_, _^_, _≤_, _<_}
-use mathlib.Core.Path.{_≡_, refl, sym, ap, _∙_}
+use Prim.Native.Nat.{ℕ, _-_}
+use mathlib.Core.Path.{sym, _∙_}
 use native.Mathlib.Omega.{arith}
-use lib.ListN.{length, getD, take, drop, set}
 use borrow.Author.Needs.{needs}
 use Rattle.constraints.proofs.constraints.Statement.{statement}
 use Rattle.constraints.proofs.constraints.Tie as tie
-use Rattle.constraints.proofs.constraints.Reads as reads
-use Rattle.constraints.proofs.constraints.Lts as lts
-use Rattle.constraints.proofs.constraints_refused.Reads as constraints-refused-reads
-use Rattle.constraints.proofs.constraints_work.Reads as constraints-work-reads
 
 constraints-refused-requires : tie.Need-constraints-refused-requires
 constraints-refused-requires c κs = search needs

@@ -1,19 +1,11 @@
-use mathlib.Core.List.{List, [], _∷_}
+use mathlib.Core.List.{[], _∷_}
 use Rattle.lists.specs.Lent.{long}
 use Rattle.lists.proofs.Lent.{long-more, long-last}
-use Rattle.field.specs.Level.{levelAt}
 use Rattle.key.specs.declared.Lengths.{Lengths}
-use Rattle.constraints.specs.Entry.{constraintsLent}
-use Prim.Native.Nat.{ℕ, zero, suc, _+_, _-_, _*_, _/_, _%_, _^_, _≤_, _<_}
-use mathlib.Core.Path.{_≡_, refl, sym, ap, _∙_}
-use native.Mathlib.Omega.{arith}
-use lib.ListN.{length, getD, take, drop, set}
-use borrow.Author.Needs.{needs}
+use Prim.Native.Nat.{_-_}
+use mathlib.Core.Path.{ap, _∙_}
 use Rattle.constraints.proofs.constraints_lengths.Statement.{statement}
 use Rattle.constraints.proofs.constraints_lengths.Tie as tie
-use Rattle.constraints.proofs.constraints_lengths.Reads as reads
-use Rattle.constraints.proofs.constraints_lengths.Lts as lts
-use Rattle.key.proofs.Key.lengths.Reads as lengths-reads
 
 lengths-requires : tie.Need-lengths-requires
 lengths-requires c κs = c .before .before .before .before .before .before .before .pre

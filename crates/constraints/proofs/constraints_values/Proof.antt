@@ -1,6 +1,6 @@
 use lib.Dec.{eqb}
-use mathlib.Core.Bool.{Bool, not}
-use mathlib.Core.List.{List, [], _∷_}
+use mathlib.Core.Bool.{not}
+use mathlib.Core.List.{[], _∷_}
 use Rattle.refusal.specs.Answer.{firstOf}
 use Rattle.refusal.proofs.Answers.{pass, stop, after-done, after-refused}
 use Rattle.field.specs.Level.{levelAt}
@@ -10,19 +10,12 @@ use Rattle.key.specs.Key.{degree, elements, below}
 use Rattle.field.proofs.Fields.{bounded}
 use Rattle.key.proofs.Sized.{degree-lt}
 use Rattle.constraints.specs.Entry.{constraintsValues}
-use Prim.Native.Nat.{ℕ, zero, suc, _+_, _-_, _*_, _/_, _%_, _^_, _≤_, _<_}
-use mathlib.Core.Path.{_≡_, refl, sym, ap, _∙_}
+use Prim.Native.Nat.{_-_}
+use mathlib.Core.Path.{_≡_, sym, ap, _∙_}
 use native.Mathlib.Omega.{arith}
-use lib.ListN.{length, getD, take, drop, set}
 use borrow.Author.Needs.{needs}
 use Rattle.constraints.proofs.constraints_values.Statement.{statement}
 use Rattle.constraints.proofs.constraints_values.Tie as tie
-use Rattle.constraints.proofs.constraints_values.Reads as reads
-use Rattle.constraints.proofs.constraints_values.Lts as lts
-use Rattle.field.proofs.excess.Reads as excess-reads
-use Rattle.key.proofs.Key.degree.Reads as degree-reads
-use Rattle.key.proofs.elements.Reads as elements-reads
-use Rattle.key.proofs.over.Reads as over-reads
 
 -- the rows that are left after the elements of the key, after u, and after v
 past : (c : tie.After-enum-told2) → let a = c .before .before .before .before .before .before .before .before .args in firstOf (constraintsValues (levelAt 1) (a .key) (a .h .now) (a .x .now) (a .positions .now) (a .u .now) (a .v .now)) ≡ firstOf ((not (below 1 (a .u .now)), 5) ∷ ((not (within (levelAt 1) (a .v .now)), 6) ∷ ((not (below (degree (a .key .n)) (a .positions .now)), 7) ∷ [])))

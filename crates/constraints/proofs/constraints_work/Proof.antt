@@ -1,5 +1,4 @@
 use mathlib.Core.Path.{subst}
-use mathlib.Core.List.{List}
 use Rattle.field.specs.Level.{levelAt}
 use Rattle.field.proofs.Fields.{bounded}
 use Rattle.rows.specs.Elements.{Fits, Words, Bits}
@@ -8,18 +7,12 @@ use Rattle.rows.specs.Outcome.{LentKey}
 use Rattle.key.specs.Key.{degree}
 use Rattle.constraints.proofs.Fine.{Room, room, ConstraintsFine, constraints-fine}
 use Rattle.constraints.proofs.Link.{masked-written, polynomials-written}
-use Prim.Native.Nat.{ℕ, zero, suc, _+_, _-_, _*_, _/_, _%_, _^_, _≤_, _<_}
-use mathlib.Core.Path.{_≡_, refl, sym, ap, _∙_}
-use native.Mathlib.Omega.{arith}
-use lib.ListN.{length, getD, take, drop, set}
+use Prim.Native.Nat.{_+_, _-_, _*_, _^_, _≤_, _<_}
+use mathlib.Core.Path.{_≡_, sym, ap, _∙_}
+use lib.ListN.{length}
 use borrow.Author.Needs.{needs}
 use Rattle.constraints.proofs.constraints_work.Statement.{statement}
 use Rattle.constraints.proofs.constraints_work.Tie as tie
-use Rattle.constraints.proofs.constraints_work.Reads as reads
-use Rattle.constraints.proofs.constraints_work.Lts as lts
-use Rattle.key.proofs.Key.degree.Reads as degree-reads
-use Rattle.rows.proofs.masked_witness.Reads as masked-witness-reads
-use Rattle.rows.proofs.polynomials.Reads as polynomials-reads
 
 fine : (c : tie.Start) → let a = c .args in ConstraintsFine 1 (a .key) (a .h .now) (a .x .now) (a .positions .now) (a .u .now) (a .v .now) (a .t .now) (a .p .now)
 fine c = let a = c .args in constraints-fine 1 (a .key) (a .h .now) (a .x .now) (a .positions .now) (a .u .now) (a .v .now) (a .t .now) (a .p .now) (c .pre)

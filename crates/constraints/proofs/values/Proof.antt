@@ -2,17 +2,11 @@ use Rattle.refusal.proofs.Answers.{when-done, when-refused}
 use Rattle.field.specs.Level.{levelAt}
 use Rattle.constraints.specs.Slices.{valueWords}
 use Rattle.constraints.specs.Entry.{valuesRows, valuesOutcome, system}
-use Prim.Native.Nat.{ℕ, zero, suc, _+_, _-_, _*_, _/_, _%_, _^_, _≤_, _<_}
-use mathlib.Core.Path.{_≡_, refl, sym, ap, _∙_}
-use native.Mathlib.Omega.{arith}
-use lib.ListN.{length, getD, take, drop, set}
+use Prim.Native.Nat.{_-_}
+use mathlib.Core.Path.{sym, _∙_}
 use borrow.Author.Needs.{needs}
 use Rattle.constraints.proofs.values.Statement.{statement}
 use Rattle.constraints.proofs.values.Tie as tie
-use Rattle.constraints.proofs.values.Reads as reads
-use Rattle.constraints.proofs.values.Lts as lts
-use Rattle.constraints.proofs.values_refused.Reads as values-refused-reads
-use Rattle.constraints.proofs.values_work.Reads as values-work-reads
 
 values-refused-requires : tie.Need-values-refused-requires
 values-refused-requires c κs = search needs

@@ -1,5 +1,5 @@
-use mathlib.Core.Bool.{Bool, not}
-use mathlib.Core.List.{List, [], _∷_}
+use mathlib.Core.Bool.{not}
+use mathlib.Core.List.{_∷_}
 use Rattle.lists.specs.Lent.{long}
 use Rattle.refusal.specs.Answer.{firstOf}
 use Rattle.refusal.proofs.Answers.{pass, stop, after-done, after-refused, none}
@@ -8,18 +8,11 @@ use Rattle.field.proofs.Tested.{fine, above}
 use Rattle.key.specs.Key.{sizes}
 use Rattle.key.proofs.Sized.{sized}
 use Rattle.constraints.specs.Entry.{valuesLent, valuesValues, valuesRows}
-use Prim.Native.Nat.{ℕ, zero, suc, _+_, _-_, _*_, _/_, _%_, _^_, _≤_, _<_}
-use mathlib.Core.Path.{_≡_, refl, sym, ap, _∙_}
-use native.Mathlib.Omega.{arith}
-use lib.ListN.{length, getD, take, drop, set}
+use Prim.Native.Nat.{_-_}
+use mathlib.Core.Path.{_≡_, sym, _∙_}
 use borrow.Author.Needs.{needs}
 use Rattle.constraints.proofs.values_refused.Statement.{statement}
 use Rattle.constraints.proofs.values_refused.Tie as tie
-use Rattle.constraints.proofs.values_refused.Reads as reads
-use Rattle.constraints.proofs.values_refused.Lts as lts
-use Rattle.constraints.proofs.values_lengths.Reads as values-lengths-reads
-use Rattle.constraints.proofs.values_values.Reads as values-values-reads
-use Rattle.key.proofs.Key.sizes.Reads as sizes-reads
 
 -- the rows that are left after the sizes
 past : (c : tie.After-enum-told2) → let a = c .before .before .before .before .before .before .before .before .before .args in firstOf (valuesRows (levelAt 1) (a .key) (a .h .now) (a .x .now) (a .t .now) (a .q .now) (a .delta .now) (a .p .now)) ≡ firstOf ((not (long (valuesLent (levelAt 1) (a .key) (a .h .now) (a .x .now) (a .t .now) (a .q .now) (a .delta .now) (a .p .now))), 3) ∷ valuesValues (levelAt 1) (a .h .now) (a .x .now) (a .t .now) (a .q .now) (a .delta .now))

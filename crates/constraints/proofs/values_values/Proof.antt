@@ -1,24 +1,17 @@
-use mathlib.Core.Bool.{Bool, not}
-use mathlib.Core.List.{List, [], _∷_}
+use mathlib.Core.Bool.{not}
+use mathlib.Core.List.{[], _∷_}
 use Rattle.refusal.specs.Answer.{firstOf}
 use Rattle.refusal.proofs.Answers.{pass, stop, after-done, after-refused}
 use Rattle.field.specs.Level.{levelAt}
 use Rattle.field.specs.Word.{within}
 use Rattle.field.proofs.Tested.{fine, above}
-use Rattle.key.specs.Key.{degree, elements, below}
+use Rattle.key.specs.Key.{elements, below}
 use Rattle.constraints.specs.Entry.{valuesValues}
-use Prim.Native.Nat.{ℕ, zero, suc, _+_, _-_, _*_, _/_, _%_, _^_, _≤_, _<_}
-use mathlib.Core.Path.{_≡_, refl, sym, ap, _∙_}
-use native.Mathlib.Omega.{arith}
-use lib.ListN.{length, getD, take, drop, set}
+use Prim.Native.Nat.{_-_}
+use mathlib.Core.Path.{_≡_, sym, _∙_}
 use borrow.Author.Needs.{needs}
 use Rattle.constraints.proofs.values_values.Statement.{statement}
 use Rattle.constraints.proofs.values_values.Tie as tie
-use Rattle.constraints.proofs.values_values.Reads as reads
-use Rattle.constraints.proofs.values_values.Lts as lts
-use Rattle.field.proofs.excess.Reads as excess-reads
-use Rattle.key.proofs.elements.Reads as elements-reads
-use Rattle.key.proofs.over.Reads as over-reads
 
 -- the rows that are left after the elements of the key, after t, and after q
 past : (c : tie.After-enum-told2) → let a = c .before .before .before .before .before .before .before .before .args in firstOf (valuesValues (levelAt 1) (a .h .now) (a .x .now) (a .t .now) (a .q .now) (a .delta .now)) ≡ firstOf ((not (below 1 (a .t .now)), 5) ∷ ((not (within (levelAt 1) (a .q .now)), 6) ∷ ((not (within (levelAt 1) (a .delta .now)), 6) ∷ [])))

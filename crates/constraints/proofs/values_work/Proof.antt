@@ -1,5 +1,4 @@
 use mathlib.Core.Path.{subst}
-use mathlib.Core.List.{List}
 use Rattle.field.specs.Level.{levelAt}
 use Rattle.field.proofs.Fields.{bounded}
 use Rattle.rows.specs.Elements.{Fits, Words, Bits}
@@ -8,17 +7,12 @@ use Rattle.rows.specs.Outcome.{LentKey}
 use Rattle.key.specs.Key.{degree}
 use Rattle.constraints.proofs.Fine.{Room, room, ValuesFine, values-fine}
 use Rattle.constraints.proofs.Link.{values-written}
-use Prim.Native.Nat.{ℕ, zero, suc, _+_, _-_, _*_, _/_, _%_, _^_, _≤_, _<_}
-use mathlib.Core.Path.{_≡_, refl, sym, ap, _∙_}
-use native.Mathlib.Omega.{arith}
-use lib.ListN.{length, getD, take, drop, set}
+use Prim.Native.Nat.{_+_, _-_, _*_, _^_, _≤_, _<_}
+use mathlib.Core.Path.{_≡_, sym, ap, _∙_}
+use lib.ListN.{length}
 use borrow.Author.Needs.{needs}
 use Rattle.constraints.proofs.values_work.Statement.{statement}
 use Rattle.constraints.proofs.values_work.Tie as tie
-use Rattle.constraints.proofs.values_work.Reads as reads
-use Rattle.constraints.proofs.values_work.Lts as lts
-use Rattle.key.proofs.Key.degree.Reads as degree-reads
-use Rattle.rows.proofs.values.Reads as values-reads
 
 fine : (c : tie.Start) → let a = c .args in ValuesFine 1 (a .key) (a .h .now) (a .x .now) (a .t .now) (a .q .now) (a .delta .now) (a .p .now)
 fine c = let a = c .args in values-fine 1 (a .key) (a .h .now) (a .x .now) (a .t .now) (a .q .now) (a .delta .now) (a .p .now) (c .pre)

@@ -2,17 +2,11 @@ use mathlib.Core.List.{List}
 use Rattle.field.specs.Level.{levelAt}
 use Rattle.constraints.specs.Slices.{elementAt}
 use Rattle.constraints.proofs.Done.{values-done}
-use Prim.Native.Nat.{ℕ, zero, suc, _+_, _-_, _*_, _/_, _%_, _^_, _≤_, _<_}
-use mathlib.Core.Path.{_≡_, refl, sym, ap, _∙_}
-use native.Mathlib.Omega.{arith}
-use lib.ListN.{length, getD, take, drop, set}
+use Prim.Native.Nat.{ℕ, _-_}
+use mathlib.Core.Path.{ap, _∙_}
 use borrow.Author.Needs.{needs}
 use Rattle.examples.proofs.agreement.Statement.{statement}
 use Rattle.examples.proofs.agreement.Tie as tie
-use Rattle.examples.proofs.agreement.Reads as reads
-use Rattle.examples.proofs.agreement.Lts as lts
-use Rattle.constraints.proofs.constraints.Reads as constraints-reads
-use Rattle.constraints.proofs.values.Reads as values-reads
 
 constraints-requires : tie.Need-constraints-requires
 constraints-requires c κs = search needs

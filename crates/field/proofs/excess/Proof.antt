@@ -1,22 +1,18 @@
-use mathlib.Core.Bool.{Bool, true, _&&_}
-use mathlib.Core.Path.{ap₂}
-use lib.Bits.{bitOr}
-use lib.Dec.{ltb, eqb, leb·suc-suc}
+use mathlib.Core.Bool.{Bool, _&&_}
+use lib.Dec.{ltb, leb·suc-suc}
 use lib.Seq.{take-all}
 use Rattle.lists.specs.Words.{all}
 use Rattle.lists.proofs.Words.{all-more}
 use Rattle.field.specs.Level.{levelAt}
 use Rattle.field.specs.Word.{within}
 use Rattle.field.proofs.Limit.{or-below, high-none}
-use Prim.Native.Nat.{ℕ, zero, suc, _+_, _-_, _*_, _/_, _%_, _^_, _≤_, _<_}
+use Prim.Native.Nat.{ℕ, _-_, _^_, _≤_}
 use mathlib.Core.Path.{_≡_, refl, sym, ap, _∙_}
 use native.Mathlib.Omega.{arith}
-use lib.ListN.{length, getD, take, drop, set}
+use lib.ListN.{length, getD, take}
 use borrow.Author.Needs.{needs}
 use Rattle.field.proofs.excess.Statement.{statement}
 use Rattle.field.proofs.excess.Tie as tie
-use Rattle.field.proofs.excess.Reads as reads
-use Rattle.field.proofs.excess.Lts as lts
 
 -- above the limit, or not, by the digits
 abbrev below : ℕ → Bool

@@ -1,22 +1,14 @@
 use Rattle.refusal.proofs.Answers.{when-done, when-refused}
-use Rattle.field.specs.Ring.{Ring}
 use Rattle.field.specs.Level.{first, levelAt, K}
 use Rattle.field.specs.Word.{element, words}
 use Rattle.field.specs.Entry.{rows, sumOutcome}
 use Rattle.field.proofs.Lent.{Lent, lent, stored}
-use Prim.Native.Nat.{ℕ, zero, suc, _+_, _-_, _*_, _/_, _%_, _^_, _≤_, _<_}
-use mathlib.Core.Path.{_≡_, refl, sym, ap, _∙_}
+use Prim.Native.Nat.{_-_}
+use mathlib.Core.Path.{sym, _∙_}
 use native.Mathlib.Omega.{arith}
-use lib.ListN.{length, getD, take, drop, set}
 use borrow.Author.Needs.{needs}
 use Rattle.field.proofs.sum.Statement.{statement}
 use Rattle.field.proofs.sum.Tie as tie
-use Rattle.field.proofs.sum.Reads as reads
-use Rattle.field.proofs.sum.Lts as lts
-use Rattle.field.proofs.Element.load.Reads as load-reads
-use Rattle.field.proofs.Element.plus.Reads as plus-reads
-use Rattle.field.proofs.Element.store.Reads as store-reads
-use Rattle.field.proofs.refused.Reads as refused-reads
 
 -- where the answer is Done
 accepted : (c : tie.After-enum-told) → let p = c .before .before .before .before .before .before .before .args in Lent (p .a .now) (p .b .now) (p .out .now)

@@ -1,21 +1,16 @@
-use mathlib.Core.Bool.{Bool, true, false, not}
-use mathlib.Core.List.{List, [], _∷_}
+use mathlib.Core.Bool.{not}
+use mathlib.Core.List.{[], _∷_}
 use Rattle.refusal.specs.Answer.{firstOf}
 use Rattle.refusal.proofs.Answers.{pass, stop}
 use Rattle.field.specs.Level.{levelAt}
 use Rattle.field.specs.Word.{within}
 use Rattle.field.proofs.Tested.{fine, above}
 use Rattle.key.specs.Key.{elements}
-use Prim.Native.Nat.{ℕ, zero, suc, _+_, _-_, _*_, _/_, _%_, _^_, _≤_, _<_}
-use mathlib.Core.Path.{_≡_, refl, sym, ap, _∙_}
-use native.Mathlib.Omega.{arith}
-use lib.ListN.{length, getD, take, drop, set}
+use Prim.Native.Nat.{_-_}
+use mathlib.Core.Path.{_≡_, sym, _∙_}
 use borrow.Author.Needs.{needs}
 use Rattle.key.proofs.elements.Statement.{statement}
 use Rattle.key.proofs.elements.Tie as tie
-use Rattle.key.proofs.elements.Reads as reads
-use Rattle.key.proofs.elements.Lts as lts
-use Rattle.field.proofs.excess.Reads as excess-reads
 
 past : (c : tie.Else1) → let a = c .before .before .before .before .args in firstOf (elements (levelAt (a .level)) (a .h .now) (a .x .now)) ≡ firstOf ((not (within (levelAt (a .level)) (a .x .now)), 4) ∷ [])
 past c = let a = c .before .before .before .before .args in pass 4 ((not (within (levelAt (a .level)) (a .x .now)), 4) ∷ []) (fine (c .before .excess .ensures) (c .if1 .left))

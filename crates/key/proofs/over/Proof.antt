@@ -1,22 +1,19 @@
 use borrow.Author.Tests.{lt-ltb}
 use lib.Pow.{pow-pos}
-use mathlib.Core.Bool.{Bool, true, _&&_}
-use lib.Bits.{bitOr}
-use lib.Dec.{ltb, eqb}
+use mathlib.Core.Bool.{_&&_}
+use lib.Dec.{ltb}
 use lib.Seq.{take-all}
 use Rattle.lists.specs.Words.{all}
 use Rattle.lists.proofs.Words.{all-more}
 use Rattle.field.proofs.Limit.{or-below, high-none}
 use Rattle.key.specs.Key.{below}
-use Prim.Native.Nat.{ℕ, zero, suc, _+_, _-_, _*_, _/_, _%_, _^_, _≤_, _<_}
-use mathlib.Core.Path.{_≡_, refl, sym, ap, _∙_}
+use Prim.Native.Nat.{_-_, _^_, _≤_}
+use mathlib.Core.Path.{_≡_, sym, ap, _∙_}
 use native.Mathlib.Omega.{arith}
-use lib.ListN.{length, getD, take, drop, set}
+use lib.ListN.{length, getD, take}
 use borrow.Author.Needs.{needs}
 use Rattle.key.proofs.over.Statement.{statement}
 use Rattle.key.proofs.over.Tie as tie
-use Rattle.key.proofs.over.Reads as reads
-use Rattle.key.proofs.over.Lts as lts
 
 abbrev Inv-loop : tie.InvT-loop
 Inv-loop s digits any₀ i₀ any i = (i ≤ length s) × (ltb any (2 ^ digits) ≡ all (λ b. ltb b (2 ^ digits)) (take i s))

@@ -1,15 +1,8 @@
 use Rattle.refusal.proofs.Answers.{when-numbered}
-use Prim.Native.Nat.{ℕ, zero, suc, _+_, _-_, _*_, _/_, _%_, _^_, _≤_, _<_}
-use mathlib.Core.Path.{_≡_, refl, sym, ap, _∙_}
-use native.Mathlib.Omega.{arith}
-use lib.ListN.{length, getD, take, drop, set}
+use Prim.Native.Nat.{_-_}
 use borrow.Author.Needs.{needs}
 use Rattle.perk.proofs.perk_constraints.Statement.{statement}
 use Rattle.perk.proofs.perk_constraints.Tie as tie
-use Rattle.perk.proofs.perk_constraints.Reads as reads
-use Rattle.perk.proofs.perk_constraints.Lts as lts
-use Rattle.constraints.proofs.constraints.Reads as constraints-reads
-use Rattle.refusal.proofs.number.Reads as number-reads
 
 constraints-requires : tie.Need-constraints-requires
 constraints-requires c κs = search needs

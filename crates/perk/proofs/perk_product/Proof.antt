@@ -1,15 +1,8 @@
 use Rattle.refusal.proofs.Answers.{when-numbered}
-use Prim.Native.Nat.{ℕ, zero, suc, _+_, _-_, _*_, _/_, _%_, _^_, _≤_, _<_}
-use mathlib.Core.Path.{_≡_, refl, sym, ap, _∙_}
-use native.Mathlib.Omega.{arith}
-use lib.ListN.{length, getD, take, drop, set}
+use Prim.Native.Nat.{_-_}
 use borrow.Author.Needs.{needs}
 use Rattle.perk.proofs.perk_product.Statement.{statement}
 use Rattle.perk.proofs.perk_product.Tie as tie
-use Rattle.perk.proofs.perk_product.Reads as reads
-use Rattle.perk.proofs.perk_product.Lts as lts
-use Rattle.field.proofs.product.Reads as product-reads
-use Rattle.refusal.proofs.number.Reads as number-reads
 
 product-requires : tie.Need-product-requires
 product-requires c κs = search needs

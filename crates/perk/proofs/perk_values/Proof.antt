@@ -1,15 +1,8 @@
 use Rattle.refusal.proofs.Answers.{when-numbered}
-use Prim.Native.Nat.{ℕ, zero, suc, _+_, _-_, _*_, _/_, _%_, _^_, _≤_, _<_}
-use mathlib.Core.Path.{_≡_, refl, sym, ap, _∙_}
-use native.Mathlib.Omega.{arith}
-use lib.ListN.{length, getD, take, drop, set}
+use Prim.Native.Nat.{_-_}
 use borrow.Author.Needs.{needs}
 use Rattle.perk.proofs.perk_values.Statement.{statement}
 use Rattle.perk.proofs.perk_values.Tie as tie
-use Rattle.perk.proofs.perk_values.Reads as reads
-use Rattle.perk.proofs.perk_values.Lts as lts
-use Rattle.constraints.proofs.values.Reads as values-reads
-use Rattle.refusal.proofs.number.Reads as number-reads
 
 values-requires : tie.Need-values-requires
 values-requires c κs = search needs

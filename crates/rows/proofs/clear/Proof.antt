@@ -7,8 +7,6 @@ use lib.ListN.{length-set, length, take, drop}
 use Rattle.rows.proofs.ListLaws.{copied-more, copied-all, blanks, blanks-length, blanks-at}
 use Rattle.rows.proofs.clear.Statement.{statement}
 use Rattle.rows.proofs.clear.Tie as tie
-use Rattle.rows.proofs.clear.Reads as reads
-use Rattle.rows.proofs.clear.Lts as lts
 
 abbrev Inv-loop : tie.InvT-loop
 Inv-loop s₀ j₀ s j = (j ≤ length s₀) × (length s ≡ length s₀) × (s ≡ take j (blanks (length s₀)) ++ drop j s₀)

@@ -16,8 +16,6 @@ use Rattle.rows.proofs.NumberLaws.{xor-word}
 use Rattle.rows.proofs.ListLaws.{tab-length, tab-at}
 use Rattle.rows.proofs.masked_row.Statement.{statement}
 use Rattle.rows.proofs.masked_row.Tie as tie
-use Rattle.rows.proofs.masked_row.Reads as reads
-use Rattle.rows.proofs.masked_row.Lts as lts
 
 -- the words of the row
 abbrev word : (u : List ℕ) (at position d k : ℕ) → ℕ

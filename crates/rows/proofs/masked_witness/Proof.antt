@@ -15,9 +15,6 @@ use Rattle.rows.proofs.NumberLaws.{row-le, row-next}
 use Rattle.rows.proofs.ListLaws.{tab-length, built-none, built-more, built-all}
 use Rattle.rows.proofs.masked_witness.Statement.{statement}
 use Rattle.rows.proofs.masked_witness.Tie as tie
-use Rattle.rows.proofs.masked_witness.Reads as reads
-use Rattle.rows.proofs.masked_witness.Lts as lts
-use Rattle.rows.proofs.masked_row.Reads as masked-row-reads
 
 abbrev Inv-loop : tie.InvT-loop
 Inv-loop t₀ positions u n d at₀ i₀ t at i = (i ≤ n) × (at ≡ d * i) × (length t ≡ length t₀) × (t ≡ concat i (maskedRow d positions u) ++ drop (d * i) t₀)

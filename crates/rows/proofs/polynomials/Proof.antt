@@ -17,12 +17,6 @@ use Rattle.rows.proofs.NumberLaws.{row-le, row-next}
 use Rattle.rows.proofs.ListLaws.{blanks-length}
 use Rattle.rows.proofs.polynomials.Statement.{statement}
 use Rattle.rows.proofs.polynomials.Tie as tie
-use Rattle.rows.proofs.polynomials.Reads as reads
-use Rattle.rows.proofs.polynomials.Lts as lts
-use Rattle.field.proofs.Element.one.Reads as one-reads
-use Rattle.rows.proofs.clear.Reads as clear-reads
-use Rattle.rows.proofs.row.Reads as row-reads
-use Rattle.rows.proofs.sums.tops.Reads as tops-reads
 
 abbrev Inv-loop : tie.InvT-loop
 Inv-loop dst₀ n m d h x positions offsets work₀ level at₀ i₀ dst work at i =

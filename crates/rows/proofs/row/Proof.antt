@@ -10,10 +10,6 @@ use Rattle.rows.proofs.SumLaws.{shared-same}
 use Rattle.rows.proofs.ElementLaws.{fits-le}
 use Rattle.rows.proofs.row.Statement.{statement}
 use Rattle.rows.proofs.row.Tie as tie
-use Rattle.rows.proofs.row.Reads as reads
-use Rattle.rows.proofs.row.Lts as lts
-use Rattle.rows.proofs.products.tree.Reads as tree-reads
-use Rattle.rows.proofs.sums.share.Reads as share-reads
 
 tree-requires : tie.Need-tree-requires
 tree-requires c κs =

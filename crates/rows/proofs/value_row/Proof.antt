@@ -12,10 +12,6 @@ use Rattle.rows.proofs.SumLaws.{shared-same}
 use Rattle.rows.proofs.ElementLaws.{fits-le}
 use Rattle.rows.proofs.value_row.Statement.{statement}
 use Rattle.rows.proofs.value_row.Tie as tie
-use Rattle.rows.proofs.value_row.Reads as reads
-use Rattle.rows.proofs.value_row.Lts as lts
-use Rattle.rows.proofs.products.value_tree.Reads as value-tree-reads
-use Rattle.rows.proofs.sums.share.Reads as share-reads
 
 value-tree-requires : tie.Need-value-tree-requires
 value-tree-requires c κs =

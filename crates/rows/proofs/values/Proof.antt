@@ -20,13 +20,6 @@ use Rattle.rows.proofs.NumberLaws.{row-le, row-next}
 use Rattle.rows.proofs.ListLaws.{blanks-length}
 use Rattle.rows.proofs.values.Statement.{statement}
 use Rattle.rows.proofs.values.Tie as tie
-use Rattle.rows.proofs.values.Reads as reads
-use Rattle.rows.proofs.values.Lts as lts
-use Rattle.rows.proofs.clear.Reads as clear-reads
-use Rattle.rows.proofs.elements.get.Reads as get-reads
-use Rattle.rows.proofs.products.raised.Reads as raised-reads
-use Rattle.rows.proofs.sums.tops.Reads as tops-reads
-use Rattle.rows.proofs.value_row.Reads as value-row-reads
 
 abbrev Inv-loop : tie.InvT-loop
 Inv-loop dst₀ n m d h x bits numbers delta work₀ level challenge at₀ i₀ dst work at i =

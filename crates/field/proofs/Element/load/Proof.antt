@@ -1,19 +1,15 @@
 use mathlib.Core.List.{List, [], _∷_}
 use Rattle.lists.proofs.Words.{part-at}
 use Rattle.field.specs.Level.{levelAt}
-use Rattle.field.specs.Word.{words}
 use Rattle.field.specs.Packed.{lane, Holds}
 use Rattle.field.proofs.Packing.{by-lanes}
-use Prim.Native.Nat.{ℕ, zero, suc, _+_, _-_, _*_, _/_, _%_, _^_, _≤_, _<_}
-use mathlib.Core.Path.{_≡_, refl, sym, ap, _∙_}
+use Prim.Native.Nat.{ℕ, zero, suc, _+_, _-_, _*_, _<_}
+use mathlib.Core.Path.{_≡_, sym, ap, _∙_}
 use native.Mathlib.Omega.{arith}
-use lib.ListN.{length, getD, take, drop, set}
+use lib.ListN.{getD}
 use borrow.Author.Needs.{needs}
 use Rattle.field.proofs.Element.load.Statement.{statement}
 use Rattle.field.proofs.Element.load.Tie as tie
-use Rattle.field.proofs.Element.load.Reads as reads
-use Rattle.field.proofs.Element.load.Lts as lts
-use Rattle.field.proofs.packed.four_at.Reads as four-at-reads
 
 four-at-requires : tie.Need-four-at-requires
 unfolding levelAt

@@ -9,8 +9,6 @@ use Rattle.field.specs.Level.{levelAt}
 use Rattle.field.proofs.Elements.{holds-masked}
 use Rattle.field.proofs.Element.masked.Statement.{statement}
 use Rattle.field.proofs.Element.masked.Tie as tie
-use Rattle.field.proofs.Element.masked.Reads as reads
-use Rattle.field.proofs.Element.masked.Lts as lts
 
 fits : (b : ℕ) → b < 2 → b * (2 ^ 64 - 1) < 2 ^ 64
 fits b h = omega arith

@@ -1,20 +1,14 @@
-use mathlib.Core.List.{List, [], _∷_}
-use Rattle.field.specs.Ring.{Ring}
+use mathlib.Core.List.{[], _∷_}
 use Rattle.field.specs.Vector.{zeros, unit}
 use Rattle.field.specs.Level.{levelAt, F, K}
 use Rattle.field.specs.Word.{number, list, word, words}
 use Rattle.field.specs.Packed.{lane, coordinate}
 use Rattle.field.proofs.Packing.{coordinates}
 use Rattle.field.proofs.Elements.{holds-list}
-use Prim.Native.Nat.{ℕ, zero, suc, _+_, _-_, _*_, _/_, _%_, _^_, _≤_, _<_}
-use mathlib.Core.Path.{_≡_, refl, sym, ap, _∙_}
-use native.Mathlib.Omega.{arith}
-use lib.ListN.{length, getD, take, drop, set}
-use borrow.Author.Needs.{needs}
+use Prim.Native.Nat.{_-_}
+use mathlib.Core.Path.{refl}
 use Rattle.field.proofs.Element.one.Statement.{statement}
 use Rattle.field.proofs.Element.one.Tie as tie
-use Rattle.field.proofs.Element.one.Reads as reads
-use Rattle.field.proofs.Element.one.Lts as lts
 
 returns : tie.Need-returns
 unfolding coordinates coordinate lane words word list number levelAt F K zeros unit

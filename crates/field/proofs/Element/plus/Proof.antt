@@ -4,15 +4,13 @@ use Rattle.field.specs.Level.{levelAt, F, K}
 use Rattle.field.specs.Word.{words, word}
 use Rattle.field.specs.Packed.{Holds}
 use Rattle.field.proofs.Packing.{packs-sum}
-use Prim.Native.Nat.{ℕ, zero, suc, _+_, _-_, _*_, _/_, _%_, _^_, _≤_, _<_}
-use mathlib.Core.Path.{_≡_, refl, sym, ap, _∙_}
+use Prim.Native.Nat.{ℕ, zero, suc, _-_, _<_}
+use mathlib.Core.Path.{_≡_, refl}
 use native.Mathlib.Omega.{arith}
-use lib.ListN.{length, getD, take, drop, set}
+use lib.ListN.{getD}
 use borrow.Author.Needs.{needs}
 use Rattle.field.proofs.Element.plus.Statement.{statement}
 use Rattle.field.proofs.Element.plus.Tie as tie
-use Rattle.field.proofs.Element.plus.Reads as reads
-use Rattle.field.proofs.Element.plus.Lts as lts
 
 array-read-t8 : tie.Need-array-read-t8
 array-read-t8 c = search needs

@@ -4,21 +4,17 @@ use native.Mathlib.Numerals.{add-one}
 use lib.ListN.{length-set}
 use lib.Seq.{paste, paste-zero, paste-suc}
 use Rattle.lists.proofs.Words.{put-pasted}
-use Rattle.field.specs.Ring.{Ring}
-use Rattle.field.specs.Level.{first, levelAt, K}
+use Rattle.field.specs.Level.{levelAt, K}
 use Rattle.field.specs.Word.{words}
 use Rattle.field.specs.Packed.{Holds}
 use Rattle.field.proofs.Elements.{words-length}
-use Prim.Native.Nat.{ℕ, zero, suc, _+_, _-_, _*_, _/_, _%_, _^_, _≤_, _<_}
+use Prim.Native.Nat.{ℕ, _+_, _-_, _≤_}
 use mathlib.Core.Path.{_≡_, refl, sym, ap, _∙_}
 use native.Mathlib.Omega.{arith}
-use lib.ListN.{length, getD, take, drop, set}
+use lib.ListN.{length, set}
 use borrow.Author.Needs.{needs}
 use Rattle.field.proofs.Element.store.Statement.{statement}
 use Rattle.field.proofs.Element.store.Tie as tie
-use Rattle.field.proofs.Element.store.Reads as reads
-use Rattle.field.proofs.Element.store.Lts as lts
-use Rattle.field.proofs.packed.coordinate.Reads as coordinate-reads
 
 abbrev Inv-loop : tie.InvT-loop
 Inv-loop self s₀ at level i₀ s i = (i ≤ 12) × (length s ≡ length s₀) × ((x : K (levelAt level) .Carrier) → Holds (levelAt level) (self .words) x → s ≡ paste s₀ at (words (levelAt level) x) i)

@@ -7,7 +7,6 @@ use mathlib.Core.Path.{ap₂}
 use mathlib.Core.List.{List}
 use lib.ListN.{length-set, replicate}
 use Rattle.lists.proofs.Words.{set-more}
-use Rattle.field.specs.Ring.{Ring}
 use Rattle.field.specs.declared.Level.{Level}
 use Rattle.field.specs.Level.{first, levelAt, K}
 use Rattle.field.specs.Word.{digits, words}
@@ -15,15 +14,12 @@ use Rattle.field.specs.Packed.{lane, Holds}
 use Rattle.field.proofs.Number.{multiple, multiple-next, number-lt}
 use Rattle.field.proofs.Elements.{holds-lane, holds-same, lane-table}
 use Prim.Native.Nat.{ℕ, zero, suc, _+_, _-_, _*_, _/_, _%_, _^_, _≤_, _<_}
-use mathlib.Core.Path.{_≡_, refl, sym, ap, _∙_}
+use mathlib.Core.Path.{_≡_, refl, sym, _∙_}
 use native.Mathlib.Omega.{arith}
-use lib.ListN.{length, getD, take, drop, set}
+use lib.ListN.{length, getD, set}
 use borrow.Author.Needs.{needs}
 use Rattle.field.proofs.Multiples.of.Statement.{statement}
 use Rattle.field.proofs.Multiples.of.Tie as tie
-use Rattle.field.proofs.Multiples.of.Reads as reads
-use Rattle.field.proofs.Multiples.of.Lts as lts
-use Rattle.field.proofs.packed.times_z.Reads as times-z-reads
 
 -- word k of the table: a word of z^(k / 3) times x
 abbrev Entry : (l : Level) → K l .Carrier → ℕ → ℕ → Type 0

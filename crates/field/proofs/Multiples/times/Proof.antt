@@ -1,25 +1,16 @@
 use Rattle.field.specs.declared.Level.{Level}
-use mathlib.Core.Path.{ap₂, subst}
-use mathlib.Core.List.{List, [], _∷_}
-use Rattle.field.specs.Ring.{Ring, Hom}
-use Rattle.field.specs.Level.{first, levelAt, F, K, embed, Y}
-use Rattle.field.specs.Word.{small, word, words}
+use mathlib.Core.Path.{subst}
+use mathlib.Core.List.{List}
+use Rattle.field.specs.Level.{first, levelAt, K, embed, Y}
+use Rattle.field.specs.Word.{small, words}
 use Rattle.field.specs.Packed.{coordinate, Holds, Tabulates}
 use Rattle.field.proofs.Elements.{rest, rest-start, rest-step, rest-end, holds-lt}
-use Prim.Native.Nat.{ℕ, zero, suc, _+_, _-_, _*_, _/_, _%_, _^_, _≤_, _<_}
-use mathlib.Core.Path.{_≡_, refl, sym, ap, _∙_}
+use Prim.Native.Nat.{ℕ, zero, suc, _-_, _^_, _≤_, _<_}
+use mathlib.Core.Path.{_≡_, sym, ap, _∙_}
 use native.Mathlib.Omega.{arith}
-use lib.ListN.{length, getD, take, drop, set}
 use borrow.Author.Needs.{needs}
 use Rattle.field.proofs.Multiples.times.Statement.{statement}
 use Rattle.field.proofs.Multiples.times.Tie as tie
-use Rattle.field.proofs.Multiples.times.Reads as reads
-use Rattle.field.proofs.Multiples.times.Lts as lts
-use Rattle.field.proofs.Element.plus.Reads as plus-reads
-use Rattle.field.proofs.Element.zero.Reads as zero-reads
-use Rattle.field.proofs.packed.coordinate.Reads as coordinate-reads
-use Rattle.field.proofs.packed.row.Reads as row-reads
-use Rattle.field.proofs.packed.times_y.Reads as times-y-reads
 
 -- coordinate i of y, f, in the place of Horner's rule
 turn : (l : Level) (i f : ℕ) (other z : List ℕ) (x y : K l .Carrier) → i < l .coordinates → f ≡ coordinate other i → Holds l other y

@@ -1,13 +1,10 @@
 use Rattle.field.proofs.Packing.{coordinate-is, lane-shift}
-use Prim.Native.Nat.{ℕ, zero, suc, _+_, _-_, _*_, _/_, _%_, _^_, _≤_, _<_}
-use mathlib.Core.Path.{_≡_, refl, sym, ap, _∙_}
-use native.Mathlib.Omega.{arith}
-use lib.ListN.{length, getD, take, drop, set}
+use Prim.Native.Nat.{_-_, _/_, _%_}
+use mathlib.Core.Path.{sym, _∙_}
+use lib.ListN.{getD}
 use borrow.Author.Needs.{needs}
 use Rattle.field.proofs.packed.coordinate.Statement.{statement}
 use Rattle.field.proofs.packed.coordinate.Tie as tie
-use Rattle.field.proofs.packed.coordinate.Reads as reads
-use Rattle.field.proofs.packed.coordinate.Lts as lts
 
 mul-result : tie.Need-mul-result
 mul-result c = search needs

@@ -1,17 +1,15 @@
 use mathlib.Core.Path.{ap₂}
-use mathlib.Core.List.{List, [], _∷_}
+use mathlib.Core.List.{[], _∷_}
 use native.Mathlib.Nat.{mod-eq-of-lt}
 use Rattle.field.specs.Packed.{lane}
 use Rattle.field.proofs.Lanes.{lane-small, lane-cons-zero, lane-cons-suc}
-use Prim.Native.Nat.{ℕ, zero, suc, _+_, _-_, _*_, _/_, _%_, _^_, _≤_, _<_}
-use mathlib.Core.Path.{_≡_, refl, sym, ap, _∙_}
+use Prim.Native.Nat.{ℕ, zero, suc, _+_, _-_, _*_, _%_, _<_}
+use mathlib.Core.Path.{_≡_, ap, _∙_}
 use native.Mathlib.Omega.{arith}
-use lib.ListN.{length, getD, take, drop, set}
+use lib.ListN.{getD}
 use borrow.Author.Needs.{needs}
 use Rattle.field.proofs.packed.four.Statement.{statement}
 use Rattle.field.proofs.packed.four.Tie as tie
-use Rattle.field.proofs.packed.four.Reads as reads
-use Rattle.field.proofs.packed.four.Lts as lts
 
 add-result : tie.Need-add-result
 add-result c = search needs

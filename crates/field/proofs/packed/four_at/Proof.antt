@@ -1,15 +1,12 @@
 use mathlib.Core.List.{List, [], _∷_}
 use native.Mathlib.Nat.{add-zero}
-use Prim.Native.Nat.{ℕ, zero, suc, _+_, _-_, _*_, _/_, _%_, _^_, _≤_, _<_}
+use Prim.Native.Nat.{ℕ, zero, suc, _+_, _-_, _<_}
 use mathlib.Core.Path.{_≡_, refl, sym, ap, _∙_}
 use native.Mathlib.Omega.{arith}
-use lib.ListN.{length, getD, take, drop, set}
+use lib.ListN.{getD}
 use borrow.Author.Needs.{needs}
 use Rattle.field.proofs.packed.four_at.Statement.{statement}
 use Rattle.field.proofs.packed.four_at.Tie as tie
-use Rattle.field.proofs.packed.four_at.Reads as reads
-use Rattle.field.proofs.packed.four_at.Lts as lts
-use Rattle.field.proofs.packed.four.Reads as four-reads
 
 mul-four : tie.Need-mul-four
 mul-four c = search needs

@@ -1,19 +1,15 @@
 use mathlib.Core.List.{List, [], _∷_}
-use Rattle.field.specs.Ring.{Ring, Hom}
 use Rattle.field.specs.Level.{first, levelAt, K, embed}
 use Rattle.field.specs.Word.{small, words}
 use Rattle.field.specs.Packed.{lane, Holds}
 use Rattle.field.proofs.Packing.{by-lanes}
-use Prim.Native.Nat.{ℕ, zero, suc, _+_, _-_, _*_, _/_, _%_, _^_, _≤_, _<_}
-use mathlib.Core.Path.{_≡_, refl, sym, ap, _∙_}
+use Prim.Native.Nat.{ℕ, zero, suc, _+_, _-_, _*_, _<_}
+use mathlib.Core.Path.{_≡_}
 use native.Mathlib.Omega.{arith}
-use lib.ListN.{length, getD, take, drop, set}
+use lib.ListN.{getD}
 use borrow.Author.Needs.{needs}
 use Rattle.field.proofs.packed.row.Statement.{statement}
 use Rattle.field.proofs.packed.row.Tie as tie
-use Rattle.field.proofs.packed.row.Reads as reads
-use Rattle.field.proofs.packed.row.Lts as lts
-use Rattle.field.proofs.packed.word.Reads as word-reads
 
 word-requires : tie.Need-word-requires
 word-requires c κs = search needs

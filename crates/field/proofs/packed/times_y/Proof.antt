@@ -6,16 +6,13 @@ use Rattle.field.specs.Word.{words, word}
 use Rattle.field.specs.Packed.{lane, coordinate, Holds}
 use Rattle.field.proofs.Coordinate.{wordAt}
 use Rattle.field.proofs.Packing.{coordinate-is, lane-shift, packs-Y}
-use Prim.Native.Nat.{ℕ, zero, suc, _+_, _-_, _*_, _/_, _%_, _^_, _≤_, _<_}
+use Prim.Native.Nat.{ℕ, zero, suc, _-_, _*_, _/_, _%_, _^_, _<_}
 use mathlib.Core.Path.{_≡_, refl, sym, ap, _∙_}
 use native.Mathlib.Omega.{arith}
-use lib.ListN.{length, getD, take, drop, set}
+use lib.ListN.{getD}
 use borrow.Author.Needs.{needs}
 use Rattle.field.proofs.packed.times_y.Statement.{statement}
 use Rattle.field.proofs.packed.times_y.Tie as tie
-use Rattle.field.proofs.packed.times_y.Reads as reads
-use Rattle.field.proofs.packed.times_y.Lts as lts
-use Rattle.field.proofs.packed.up.Reads as up-reads
 
 array-read-top : tie.Need-array-read-top
 array-read-top c = search needs

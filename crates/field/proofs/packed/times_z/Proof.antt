@@ -7,15 +7,11 @@ use Rattle.field.specs.Word.{digits}
 use Rattle.field.specs.Packed.{lane}
 use Rattle.field.proofs.Number.{timesX-number}
 use Rattle.field.proofs.Packing.{lane-Z}
-use Prim.Native.Nat.{ℕ, zero, suc, _+_, _-_, _*_, _/_, _%_, _^_, _≤_, _<_}
-use mathlib.Core.Path.{_≡_, refl, sym, ap, _∙_}
+use Prim.Native.Nat.{ℕ, zero, suc, _-_, _/_, _^_, _<_}
+use mathlib.Core.Path.{_≡_, refl, sym}
 use native.Mathlib.Omega.{arith}
-use lib.ListN.{length, getD, take, drop, set}
-use borrow.Author.Needs.{needs}
 use Rattle.field.proofs.packed.times_z.Statement.{statement}
 use Rattle.field.proofs.packed.times_z.Tie as tie
-use Rattle.field.proofs.packed.times_z.Reads as reads
-use Rattle.field.proofs.packed.times_z.Lts as lts
 
 rule-11 : digits 11 5 ≡ rule binary 11 2
 unfolding digits rule sum unit zeros

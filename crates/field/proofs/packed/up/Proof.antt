@@ -1,13 +1,8 @@
 use Rattle.field.proofs.Lanes.{lane-up-zero, lane-up-suc}
-use Prim.Native.Nat.{ℕ, zero, suc, _+_, _-_, _*_, _/_, _%_, _^_, _≤_, _<_}
-use mathlib.Core.Path.{_≡_, refl, sym, ap, _∙_}
-use native.Mathlib.Omega.{arith}
-use lib.ListN.{length, getD, take, drop, set}
+use Prim.Native.Nat.{_-_}
 use borrow.Author.Needs.{needs}
 use Rattle.field.proofs.packed.up.Statement.{statement}
 use Rattle.field.proofs.packed.up.Tie as tie
-use Rattle.field.proofs.packed.up.Reads as reads
-use Rattle.field.proofs.packed.up.Lts as lts
 
 add-result : tie.Need-add-result
 add-result c = search needs

@@ -1,6 +1,4 @@
-use mathlib.Core.List.{List}
 use native.Mathlib.Nat.{mod-one, mod-eq-of-lt}
-use Rattle.field.specs.Ring.{Ring}
 use Rattle.field.specs.Level.{first, levelAt, K}
 use Rattle.field.specs.Word.{digits, words}
 use Rattle.field.specs.Packed.{lane, Tabulates}
@@ -8,15 +6,13 @@ use Rattle.field.proofs.Number.{multiple, multiple-none}
 use Rattle.field.proofs.Lanes.{lane-zero}
 use Rattle.field.proofs.Packing.{lane-more}
 use Rattle.field.proofs.Elements.{table-lane, words-scaled}
-use Prim.Native.Nat.{ℕ, zero, suc, _+_, _-_, _*_, _/_, _%_, _^_, _≤_, _<_}
-use mathlib.Core.Path.{_≡_, refl, sym, ap, _∙_}
+use Prim.Native.Nat.{ℕ, _+_, _-_, _*_, _%_, _^_, _≤_, _<_}
+use mathlib.Core.Path.{_≡_, sym, ap, _∙_}
 use native.Mathlib.Omega.{arith}
-use lib.ListN.{length, getD, take, drop, set}
+use lib.ListN.{getD}
 use borrow.Author.Needs.{needs}
 use Rattle.field.proofs.packed.word.Statement.{statement}
 use Rattle.field.proofs.packed.word.Tie as tie
-use Rattle.field.proofs.packed.word.Reads as reads
-use Rattle.field.proofs.packed.word.Lts as lts
 
 abbrev Inv-loop : tie.InvT-loop
 Inv-loop table at f x₀ k₀ x k = (k ≤ 11) × ((y : K first .Carrier) → Tabulates first table y → (j : ℕ) → j < 4 → lane x j ≡ multiple 11 2 (digits 11 (getD (words first y) (4 * at + j) 0)) (f % 2 ^ k))

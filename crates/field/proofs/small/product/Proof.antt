@@ -8,15 +8,11 @@ use Rattle.field.specs.Level.{levelAt, F}
 use Rattle.field.specs.Word.{digits, small, word}
 use Rattle.field.proofs.Number.{multiple, multiple-none, multiple-one, multiple-more, multiple-next, number-digits, number-lt}
 use Prim.Native.Nat.{ℕ, zero, suc, _+_, _-_, _*_, _/_, _%_, _^_, _≤_, _<_}
-use mathlib.Core.Path.{_≡_, refl, sym, ap, _∙_}
+use mathlib.Core.Path.{_≡_, sym, ap, _∙_}
 use native.Mathlib.Omega.{arith}
-use lib.ListN.{length, getD, take, drop, set}
 use borrow.Author.Needs.{needs}
 use Rattle.field.proofs.small.product.Statement.{statement}
 use Rattle.field.proofs.small.product.Tie as tie
-use Rattle.field.proofs.small.product.Reads as reads
-use Rattle.field.proofs.small.product.Lts as lts
-use Rattle.field.proofs.small.times_z.Reads as times-z-reads
 
 -- all digits of y, or none
 masked : (e y : ℕ) → e < 2 → y < 2 ^ 16 → bitAnd y (e * 65535) ≡ e * y

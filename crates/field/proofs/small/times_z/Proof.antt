@@ -1,21 +1,16 @@
 use mathlib.Core.Path.{subst, ap₂}
 use lib.Bits.{bitXor}
-use mathlib.Core.Path.{subst}
-use native.Mathlib.Nat.{mod-eq-of-lt, mul-comm}
 use Rattle.field.specs.Binary.{binary}
 use Rattle.field.specs.Vector.{sum, unit, zeros}
 use Rattle.field.specs.Quotient.{rule, timesX}
 use Rattle.field.specs.Word.{digits}
 use Rattle.field.proofs.Number.{timesX-number}
-use Prim.Native.Nat.{ℕ, zero, suc, _+_, _-_, _*_, _/_, _%_, _^_, _≤_, _<_}
-use mathlib.Core.Path.{_≡_, refl, sym, ap, _∙_}
+use Prim.Native.Nat.{ℕ, _+_, _-_, _*_, _/_, _%_, _^_, _<_}
+use mathlib.Core.Path.{_≡_, refl, sym}
 use native.Mathlib.Omega.{arith}
-use lib.ListN.{length, getD, take, drop, set}
 use borrow.Author.Needs.{needs}
 use Rattle.field.proofs.small.times_z.Statement.{statement}
 use Rattle.field.proofs.small.times_z.Tie as tie
-use Rattle.field.proofs.small.times_z.Reads as reads
-use Rattle.field.proofs.small.times_z.Lts as lts
 
 rule-11 : digits 11 5 ≡ rule binary 11 2
 unfolding digits rule sum unit zeros

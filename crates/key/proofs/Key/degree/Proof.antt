@@ -1,14 +1,11 @@
 use lib.Count.{leading-le}
 use Rattle.key.specs.Key.{degree}
-use Prim.Native.Nat.{ℕ, zero, suc, _+_, _-_, _*_, _/_, _%_, _^_, _≤_, _<_}
-use mathlib.Core.Path.{_≡_, refl, sym, ap, _∙_}
+use Prim.Native.Nat.{_-_}
+use mathlib.Core.Path.{refl}
 use native.Mathlib.Omega.{arith}
-use lib.ListN.{length, getD, take, drop, set}
 use borrow.Author.Needs.{needs}
 use Rattle.key.proofs.Key.degree.Statement.{statement}
 use Rattle.key.proofs.Key.degree.Tie as tie
-use Rattle.key.proofs.Key.degree.Reads as reads
-use Rattle.key.proofs.Key.degree.Lts as lts
 
 sub-last : tie.Need-sub-last
 sub-last c = search needs

@@ -1,37 +1,30 @@
 use mathlib.Core.Path.{ap₂, subst}
 use native.Mathlib.Nat.{mul-le-mul}
 use Rattle.field.specs.declared.Level.{Level}
-use Rattle.field.specs.Level.{levelAt}
-use Rattle.field.proofs.Fields.{Bounded, bounded}
-use Rattle.key.specs.declared.Lengths.{Lengths}
-use Rattle.key.specs.Key.{degree, Sized}
+use Rattle.field.proofs.Fields.{bounded}
+use Rattle.key.specs.Key.{degree}
 use Rattle.key.proofs.Sized.{degree-lt}
-use Prim.Native.Nat.{ℕ, zero, suc, _+_, _-_, _*_, _/_, _%_, _^_, _≤_, _<_}
-use mathlib.Core.Path.{_≡_, refl, sym, ap, _∙_}
+use Prim.Native.Nat.{ℕ, _+_, _-_, _*_, _≤_}
+use mathlib.Core.Path.{sym, ap}
 use native.Mathlib.Omega.{arith}
-use lib.ListN.{length, getD, take, drop, set}
 use borrow.Author.Needs.{needs}
 use Rattle.key.proofs.Key.lengths.Statement.{statement}
 use Rattle.key.proofs.Key.lengths.Tie as tie
-use Rattle.key.proofs.Key.lengths.Reads as reads
-use Rattle.key.proofs.Key.lengths.Lts as lts
-use Rattle.field.proofs.Level.of.Reads as of-reads
-use Rattle.key.proofs.Key.degree.Reads as degree-reads
 
 -- bounds of the numbers, and of their products
 record Known (n m d w : ℕ) : Type 0 where
   n-le : n ≤ 128
   m-le : m ≤ 128
   d-le : d ≤ 8
-  w-le : w ≤ 12
+  w-le : w ≤ 32
 
 record Small (n m d w : ℕ) : Type 0 where
   matrix : m * n ≤ 128 * 128
   bits : n * d ≤ 128 * 8
-  elements : w * (n * d) ≤ 12 * (128 * 8)
+  elements : w * (n * d) ≤ 32 * (128 * 8)
   coefficients : (n + m) * (d + 1) ≤ 256 * 9
-  polynomials : w * ((n + m) * (d + 1)) ≤ 12 * (256 * 9)
-  values : w * (n + m) ≤ 12 * 256
+  polynomials : w * ((n + m) * (d + 1)) ≤ 32 * (256 * 9)
+  values : w * (n + m) ≤ 32 * 256
 
 small : {n m d w : ℕ} → Known n m d w → Small n m d w
 small {n} {m} {d} k =
@@ -56,7 +49,7 @@ known c =
       n-le = omega (arith, b .most, s .most);
       m-le = omega (arith, b .most, s .most, s .fewer);
       d-le = omega (arith, c .before .degree .ensures, degree-lt (a .self .n) 8 (omega (arith, s .two)) (omega (arith, b .most, s .most)) (omega (arith, b .most, s .most)));
-      w-le = subst (λ (l : Level). l .coordinates ≤ 12) (sym (c .of .ensures)) (b .narrow);
+      w-le = subst (λ (l : Level). l .coordinates ≤ 32) (sym (c .of .ensures)) (omega (arith, b .narrow));
     }
 
 degree-requires : tie.Need-degree-requires

@@ -1,5 +1,5 @@
 use mathlib.Core.Path.{subst}
-use mathlib.Core.Bool.{Bool, true, false}
+use mathlib.Core.Bool.{Bool}
 use mathlib.Core.List.{List, [], _∷_}
 use borrow.Author.Tests.{lt-ltb, le-ltb, le-leb, lt-leb, eq-eqb, ne-eqb}
 use lib.Dec.{ltb, leb, eqb}
@@ -9,16 +9,11 @@ use Rattle.field.specs.declared.Level.{Level}
 use Rattle.field.specs.Level.{levelAt}
 use Rattle.key.specs.declared.Key.{Key}
 use Rattle.key.specs.Key.{sizes}
-use Prim.Native.Nat.{ℕ, zero, suc, _+_, _-_, _*_, _/_, _%_, _^_, _≤_, _<_}
-use mathlib.Core.Path.{_≡_, refl, sym, ap, _∙_}
-use native.Mathlib.Omega.{arith}
-use lib.ListN.{length, getD, take, drop, set}
+use Prim.Native.Nat.{ℕ, _-_, _≤_, _<_}
+use mathlib.Core.Path.{_≡_, sym, _∙_}
 use borrow.Author.Needs.{needs}
 use Rattle.key.proofs.Key.sizes.Statement.{statement}
 use Rattle.key.proofs.Key.sizes.Tie as tie
-use Rattle.key.proofs.Key.sizes.Reads as reads
-use Rattle.key.proofs.Key.sizes.Lts as lts
-use Rattle.field.proofs.Level.of.Reads as of-reads
 
 -- the rows that are left after each test
 abbrev rows3 : Key → List (Bool × ℕ)

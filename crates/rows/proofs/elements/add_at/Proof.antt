@@ -3,11 +3,6 @@ use Rattle.field.specs.Level.{levelAt, K}
 use Rattle.rows.specs.Elements.{el}
 use Rattle.rows.proofs.elements.add_at.Statement.{statement}
 use Rattle.rows.proofs.elements.add_at.Tie as tie
-use Rattle.rows.proofs.elements.add_at.Reads as reads
-use Rattle.rows.proofs.elements.add_at.Lts as lts
-use Rattle.field.proofs.Element.plus.Reads as plus-reads
-use Rattle.rows.proofs.elements.get.Reads as get-reads
-use Rattle.rows.proofs.elements.put.Reads as put-reads
 
 get-requires : tie.Need-get-requires
 get-requires c κs = search needs

@@ -9,10 +9,6 @@ use Rattle.rows.specs.Elements.{el}
 use Rattle.rows.proofs.ElementLaws.{fits-inside, part-words}
 use Rattle.rows.proofs.elements.get.Statement.{statement}
 use Rattle.rows.proofs.elements.get.Tie as tie
-use Rattle.rows.proofs.elements.get.Reads as reads
-use Rattle.rows.proofs.elements.get.Lts as lts
-use Rattle.field.proofs.Element.load.Reads as load-reads
-use Rattle.field.proofs.Level.of.Reads as of-reads
 
 of-requires : tie.Need-of-requires
 of-requires c κs = search needs

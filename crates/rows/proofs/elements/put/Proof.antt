@@ -9,10 +9,6 @@ use Rattle.field.specs.declared.Level.{Level}
 use Rattle.rows.proofs.ElementLaws.{fits-inside, stored}
 use Rattle.rows.proofs.elements.put.Statement.{statement}
 use Rattle.rows.proofs.elements.put.Tie as tie
-use Rattle.rows.proofs.elements.put.Reads as reads
-use Rattle.rows.proofs.elements.put.Lts as lts
-use Rattle.field.proofs.Element.store.Reads as store-reads
-use Rattle.field.proofs.Level.of.Reads as of-reads
 
 of-requires : tie.Need-of-requires
 of-requires c κs = search needs

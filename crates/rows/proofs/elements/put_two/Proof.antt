@@ -9,9 +9,6 @@ use Rattle.rows.specs.Elements.{valueOf}
 use Rattle.rows.proofs.ElementLaws.{fits-le, put-two}
 use Rattle.rows.proofs.elements.put_two.Statement.{statement}
 use Rattle.rows.proofs.elements.put_two.Tie as tie
-use Rattle.rows.proofs.elements.put_two.Reads as reads
-use Rattle.rows.proofs.elements.put_two.Lts as lts
-use Rattle.rows.proofs.elements.put.Reads as put-reads
 
 put-requires : tie.Need-put-requires
 put-requires c κs = (c .before .before .pre .0, fits-le (levelAt (c .before .before .args .level)) (c .before .before .args .a + 1) (c .before .before .args .b + 1) (omega (arith, c .before .before .pre .2)) refl (c .before .before .pre .3))

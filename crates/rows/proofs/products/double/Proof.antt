@@ -13,9 +13,6 @@ use Rattle.rows.proofs.ElementLaws.{fits-le}
 use Rattle.rows.proofs.NumberLaws.{row-le, row-next}
 use Rattle.rows.proofs.products.double.Statement.{statement}
 use Rattle.rows.proofs.products.double.Tie as tie
-use Rattle.rows.proofs.products.double.Reads as reads
-use Rattle.rows.proofs.products.double.Lts as lts
-use Rattle.rows.proofs.products.split.Reads as split-reads
 
 abbrev Inv-loop : tie.InvT-loop
 Inv-loop buf₀ n h s w v level half a₀ p₀ buf a p =

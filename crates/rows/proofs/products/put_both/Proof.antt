@@ -12,11 +12,6 @@ use Rattle.rows.proofs.NumberLaws.{odd-not}
 use Rattle.rows.proofs.ElementLaws.{holds-held}
 use Rattle.rows.proofs.products.put_both.Statement.{statement}
 use Rattle.rows.proofs.products.put_both.Tie as tie
-use Rattle.rows.proofs.products.put_both.Reads as reads
-use Rattle.rows.proofs.products.put_both.Lts as lts
-use Rattle.field.proofs.Element.plus.Reads as plus-reads
-use Rattle.field.proofs.Element.masked.Reads as masked-reads
-use Rattle.rows.proofs.elements.put_two.Reads as put-two-reads
 
 abbrev L : tie.Start → Level
 L s = levelAt (s .args .level)

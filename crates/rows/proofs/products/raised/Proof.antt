@@ -9,11 +9,6 @@ use Rattle.rows.specs.Elements.{valueOf}
 use Rattle.rows.proofs.ValueLaws.{raise-none, raise-more}
 use Rattle.rows.proofs.products.raised.Statement.{statement}
 use Rattle.rows.proofs.products.raised.Tie as tie
-use Rattle.rows.proofs.products.raised.Reads as reads
-use Rattle.rows.proofs.products.raised.Lts as lts
-use Rattle.field.proofs.Element.one.Reads as one-reads
-use Rattle.field.proofs.Multiples.of.Reads as of-reads
-use Rattle.field.proofs.Multiples.times.Reads as times-reads
 
 abbrev Inv-loop : tie.InvT-loop
 Inv-loop d level multiples power₀ i₀ power i = (i ≤ d) × ((y : K (levelAt level) .Carrier) → Tabulates (levelAt level) (multiples .words) y → Holds (levelAt level) (power .words) (raise (K (levelAt level)) y i))

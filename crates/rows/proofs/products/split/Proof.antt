@@ -17,13 +17,6 @@ use Rattle.rows.proofs.ProductLaws.{up-zero, up-suc, times-low, times-t
 use Rattle.rows.proofs.ElementLaws.{holds-held, fits-le}
 use Rattle.rows.proofs.products.split.Statement.{statement}
 use Rattle.rows.proofs.products.split.Tie as tie
-use Rattle.rows.proofs.products.split.Reads as reads
-use Rattle.rows.proofs.products.split.Lts as lts
-use Rattle.field.proofs.Element.zero.Reads as zero-reads
-use Rattle.field.proofs.Multiples.of.Reads as of-reads
-use Rattle.field.proofs.Multiples.times.Reads as times-reads
-use Rattle.rows.proofs.elements.get.Reads as get-reads
-use Rattle.rows.proofs.products.put_both.Reads as put-both-reads
 
 abbrev Inv-loop : tie.InvT-loop
 Inv-loop buf₀ a b s w level multiples carry₀ e₀ buf carry e =

@@ -14,12 +14,6 @@ use Rattle.rows.proofs.ElementLaws.{fits-le, holds-value, holds-held}
 use Rattle.rows.proofs.NumberLaws.{many, pow-double, pow-room, room, room-one, digit-place}
 use Rattle.rows.proofs.products.tree.Statement.{statement}
 use Rattle.rows.proofs.products.tree.Tie as tie
-use Rattle.rows.proofs.products.tree.Reads as reads
-use Rattle.rows.proofs.products.tree.Lts as lts
-use Rattle.field.proofs.Element.one.Reads as one-reads
-use Rattle.rows.proofs.elements.get.Reads as get-reads
-use Rattle.rows.proofs.elements.put.Reads as put-reads
-use Rattle.rows.proofs.products.double.Reads as double-reads
 
 abbrev Inv-loop : tie.InvT-loop
 Inv-loop buf₀ position offsets at d level h₀ t₀ buf h t =

@@ -12,12 +12,6 @@ use Rattle.rows.proofs.ValueLaws.{twofold-none, twofold-more}
 use Rattle.rows.proofs.ElementLaws.{holds-held, fits-le}
 use Rattle.rows.proofs.products.twin.Statement.{statement}
 use Rattle.rows.proofs.products.twin.Tie as tie
-use Rattle.rows.proofs.products.twin.Reads as reads
-use Rattle.rows.proofs.products.twin.Lts as lts
-use Rattle.field.proofs.Multiples.of.Reads as of-reads
-use Rattle.field.proofs.Multiples.times.Reads as times-reads
-use Rattle.rows.proofs.elements.get.Reads as get-reads
-use Rattle.rows.proofs.elements.put_two.Reads as put-two-reads
 
 abbrev Inv-loop : tie.InvT-loop
 Inv-loop buf₀ h level low high p₀ buf p =

@@ -17,14 +17,6 @@ use Rattle.rows.proofs.ElementLaws.{fits-le, holds-value, holds-held}
 use Rattle.rows.proofs.NumberLaws.{pos, pow-double, pow-room, odd-not}
 use Rattle.rows.proofs.products.value_tree.Statement.{statement}
 use Rattle.rows.proofs.products.value_tree.Tie as tie
-use Rattle.rows.proofs.products.value_tree.Reads as reads
-use Rattle.rows.proofs.products.value_tree.Lts as lts
-use Rattle.field.proofs.Element.one.Reads as one-reads
-use Rattle.field.proofs.Element.plus.Reads as plus-reads
-use Rattle.rows.proofs.elements.get.Reads as get-reads
-use Rattle.field.proofs.Element.masked.Reads as masked-reads
-use Rattle.rows.proofs.elements.put.Reads as put-reads
-use Rattle.rows.proofs.products.twin.Reads as twin-reads
 
 abbrev Inv-loop : tie.InvT-loop
 Inv-loop buf₀ bits numbers at d delta level h₀ t₀ buf h t =

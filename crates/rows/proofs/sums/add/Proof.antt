@@ -10,10 +10,6 @@ use Rattle.rows.proofs.SumLaws.{added-none, added-more}
 use Rattle.rows.proofs.ElementLaws.{fits-le}
 use Rattle.rows.proofs.sums.add.Statement.{statement}
 use Rattle.rows.proofs.sums.add.Tie as tie
-use Rattle.rows.proofs.sums.add.Reads as reads
-use Rattle.rows.proofs.sums.add.Lts as lts
-use Rattle.rows.proofs.elements.add_at.Reads as add-at-reads
-use Rattle.rows.proofs.elements.get.Reads as get-reads
 
 abbrev Inv-loop : tie.InvT-loop
 Inv-loop dst₀ src n level k₀ dst k =

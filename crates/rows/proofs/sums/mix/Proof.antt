@@ -14,12 +14,6 @@ use Rattle.rows.proofs.ElementLaws.{fits-le}
 use Rattle.rows.proofs.NumberLaws.{row-le, row-next}
 use Rattle.rows.proofs.sums.mix.Statement.{statement}
 use Rattle.rows.proofs.sums.mix.Tie as tie
-use Rattle.rows.proofs.sums.mix.Reads as reads
-use Rattle.rows.proofs.sums.mix.Lts as lts
-use Rattle.field.proofs.Element.plus.Reads as plus-reads
-use Rattle.field.proofs.Element.scaled.Reads as scaled-reads
-use Rattle.field.proofs.Element.zero.Reads as zero-reads
-use Rattle.rows.proofs.elements.get.Reads as get-reads
 
 abbrev Inv-loop : tie.InvT-loop
 Inv-loop src k s x n level total₀ at₀ j₀ total at j =

@@ -11,11 +11,6 @@ use Rattle.rows.proofs.SumLaws.{mixed, Checked, checked-none, checked-m
 use Rattle.rows.proofs.ElementLaws.{fits-le, holds-value, holds-held}
 use Rattle.rows.proofs.sums.share.Statement.{statement}
 use Rattle.rows.proofs.sums.share.Tie as tie
-use Rattle.rows.proofs.sums.share.Reads as reads
-use Rattle.rows.proofs.sums.share.Lts as lts
-use Rattle.rows.proofs.sums.add.Reads as add-reads
-use Rattle.rows.proofs.sums.mix.Reads as mix-reads
-use Rattle.rows.proofs.sums.spread.Reads as spread-reads
 
 abbrev Inv-loop : tie.InvT-loop
 Inv-loop dst₀ src n m s h x i level count k₀ dst k =

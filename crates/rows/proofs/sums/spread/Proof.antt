@@ -15,11 +15,6 @@ use Rattle.rows.proofs.ElementLaws.{fits-le}
 use Rattle.rows.proofs.NumberLaws.{row-le, row-next}
 use Rattle.rows.proofs.sums.spread.Statement.{statement}
 use Rattle.rows.proofs.sums.spread.Tie as tie
-use Rattle.rows.proofs.sums.spread.Reads as reads
-use Rattle.rows.proofs.sums.spread.Lts as lts
-use Rattle.field.proofs.Multiples.of.Reads as of-reads
-use Rattle.field.proofs.Multiples.scaled.Reads as scaled-reads
-use Rattle.rows.proofs.elements.add_at.Reads as add-at-reads
 
 abbrev Inv-loop : tie.InvT-loop
 Inv-loop dst₀ a s k h n m i level multiples at₀ entry₀ e₀ dst at entry e =

@@ -12,9 +12,6 @@ use Rattle.rows.proofs.ElementLaws.{fits-le}
 use Rattle.rows.proofs.NumberLaws.{row-le, row-next}
 use Rattle.rows.proofs.sums.tops.Statement.{statement}
 use Rattle.rows.proofs.sums.tops.Tie as tie
-use Rattle.rows.proofs.sums.tops.Reads as reads
-use Rattle.rows.proofs.sums.tops.Lts as lts
-use Rattle.rows.proofs.elements.add_at.Reads as add-at-reads
 
 abbrev Inv-loop : tie.InvT-loop
 Inv-loop dst₀ n s k y level at₀ j₀ dst at j =

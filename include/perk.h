@@ -62,7 +62,8 @@ uint32_t perk_product(const uint16_t *a, size_t a_len, const uint16_t *b, size_t
  * 0 to n - 1, each once, and H times x in that order is zero; and wherever perk_values is given this key, this t, a
  * challenge delta, and q with each q(i,k) = u(i,k) delta + v(i,k), value j is polynomial j at delta.
  *
- * No branch and no address depends on positions, u or v, other than the decision to refuse. Stack: under 20 KiB.
+ * Written so that no branch and no address depends on positions, u or v, other than the decision to refuse; this is
+ * not part of the proof. Stack: under 20 KiB.
  */
 uint32_t perk_constraints(size_t n, size_t m, const uint16_t *h, size_t h_len, const uint16_t *x, size_t x_len,
                           const uint8_t *positions, size_t positions_len, const uint8_t *u, size_t u_len,

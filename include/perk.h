@@ -7,7 +7,8 @@
  * What the caller owes, as in any C interface: a pointer and its length name memory that is the caller's, aligned
  * for its type, and no output overlaps another slice of the call. Two inputs may be the same memory.
  *
- * Results: 0 is done; any other number is a refusal, and then every output holds what it held before:
+ * Results: 0 is done, or accepted; 255 is rejected, which is no refusal; any other number is a refusal, and then every
+ * output holds what it held before:
  *
  *   1   n is below 2 or above 64
  *   2   m is 0, or at least n
@@ -16,6 +17,7 @@
  *   5   a byte of u or t is above 1
  *   6   a coordinate of an element of K is above 2047
  *   7   a position is 2^d or more
+ *   8   a top coefficient of the n + m polynomials is not zero: the positions do not solve the key
  *
  * Refusals are tried in the order in which a function lists them; the first that applies is the result.
  *
@@ -82,6 +84,52 @@ uint32_t perk_constraints(size_t n, size_t m, const uint16_t *h, size_t h_len, c
 uint32_t perk_values(size_t n, size_t m, const uint16_t *h, size_t h_len, const uint16_t *x, size_t x_len,
                      const uint8_t *t, size_t t_len, const uint16_t *q, size_t q_len,
                      const uint16_t *delta, size_t delta_len, uint16_t *values, size_t values_len);
+
+/*
+ * The masked witness and the proof of a key, from the prover's positions, mask bits u and offsets v, the masks r and s,
+ * and the weights alpha.
+ *
+ *   h            m n words       x            n words       positions    n bytes, each below 2^d
+ *   u            n d bytes       v            12 n d words
+ *   r, s         12 (d - 1) words each, none where n is 2
+ *   alpha        12 (n + m) words
+ *   t            n d bytes, written: as by perk_constraints
+ *   a            12 d words, written: the d coefficients below X^d, that of X^0 first, of the sum of alpha(j) times
+ *                polynomial j plus the sum over k below d - 1 of X^k (s(k) X + r(k))
+ *
+ * Refusals: 1, 2, 3 (all ten slices), 4 (h, x), 5 (u), 6 (v, r, s, alpha), 7, and then 8, found before anything is
+ * written, whatever the weights are.
+ *
+ * Proved besides: past 1 to 7 the result is 0 exactly when the positions are 0 to n - 1, each once, and H times x in that
+ * order is zero, and 8 exactly when they are not; and wherever the result is 0, perk_verify accepts t and a with the same
+ * key and weights, any challenge delta, each q(i,k) = u(i,k) delta + v(i,k) and each masks(k) = s(k) delta + r(k).
+ *
+ * Written so that no branch and no address depends on positions, u, v, r or s, other than the decision to refuse; this is
+ * not part of the proof. Stack: under 48 KiB.
+ */
+uint32_t perk_prove(size_t n, size_t m, const uint16_t *h, size_t h_len, const uint16_t *x, size_t x_len,
+                    const uint8_t *positions, size_t positions_len, const uint8_t *u, size_t u_len,
+                    const uint16_t *v, size_t v_len, const uint16_t *r, size_t r_len, const uint16_t *s, size_t s_len,
+                    const uint16_t *alpha, size_t alpha_len, uint8_t *t, size_t t_len, uint16_t *a, size_t a_len);
+
+/*
+ * Whether a proof is accepted: 0 exactly when a at the challenge equals the sum of alpha(j) times value j plus the sum over
+ * k below d - 1 of delta^k masks(k), and 255 exactly when it does not; the power 0 is one, for delta zero too.
+ *
+ *   h            m n words       x            n words       t            n d bytes
+ *   q            12 n d words    delta        12 words      masks        12 (d - 1) words
+ *   alpha        12 (n + m) words                           a            12 d words
+ *
+ * Refusals: 1, 2, 3 (all eight slices), 4 (h, x), 5 (t), 6 (q, delta, masks, alpha, a). Stack: under 24 KiB.
+ *
+ * Accepted means that this equation holds. It does not by itself mean that a signature is valid: the challenge, the
+ * weights and the correlations are the caller's, who must take the challenge only after the prover's commitment and
+ * check that the correlations are consistent.
+ */
+uint32_t perk_verify(size_t n, size_t m, const uint16_t *h, size_t h_len, const uint16_t *x, size_t x_len,
+                     const uint8_t *t, size_t t_len, const uint16_t *q, size_t q_len,
+                     const uint16_t *delta, size_t delta_len, const uint16_t *masks, size_t masks_len,
+                     const uint16_t *alpha, size_t alpha_len, const uint16_t *a, size_t a_len);
 
 #ifdef __cplusplus
 }

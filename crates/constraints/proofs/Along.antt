@@ -90,7 +90,7 @@ module _ {K L : Ring} (h : Hom K L) where
     map-times = λ d. h .map-mul;
   }
 
-  map-bit : (b : Bool) → h .map (bit K b) ≡ bit L b
+  pub map-bit : (b : Bool) → h .map (bit K b) ≡ bit L b
   map-bit false = hom-zero K L h
   map-bit true = h .map-one
 

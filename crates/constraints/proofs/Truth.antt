@@ -77,19 +77,22 @@ module _ (l : Level) (S : System (K l)) where
           ∙ agreement S w (bits (S .places) u) (elements l (S .places) v) (elements l (S .places) q) (element l Δ) h j
           ∙ ap (λ p. eval (K l) (suc d) p (element l Δ)) (sym (polynomial-written w v j a))
 
--- demand 3 at every level, for every key of fewer than 2^64 columns, spare codes included
-pub truth : (l : Level) → 0 < l .width → 0 < l .coordinates → (n m : ℕ) (h x : List ℕ) → n < 2 ^ 64 → (positions u v : List ℕ) → ((i : ℕ) → i < n → positionAt positions i < 2 ^ degree n)
-    → Truth l n m h x positions u v (maskedBytes (systemOf l n m h x) (witnessOf n positions) u) (polynomialWords l (systemOf l n m h x) (witnessOf n positions) v)
-truth l width coordinates n m h x fits positions u v small = record {
-  agrees = agrees l S (witnessOf n positions) u v;
-  tops = (λ e. both .0 (λ j a. ap (top (K l) (degree n)) (sym (written j a)) ∙ e j a), λ s j a. ap (top (K l) (degree n)) (written j a) ∙ both .1 s j a);
-}
-  where
-    S : System (K l)
-    S = systemOf l n m h x
+-- at every level, for every key of fewer than 2^64 columns, spare codes included
+module _ (l : Level) (width : 0 < l .width) (coordinates : 0 < l .coordinates) (n m : ℕ) (h x : List ℕ) (fits : n < 2 ^ 64) (positions : List ℕ) (small : (i : ℕ) → i < n → positionAt positions i < 2 ^ degree n) where
+  abbrev S : System (K l)
+  S = systemOf l n m h x
 
-    written : (j : ℕ) → j < n + m → polynomialAt l (degree n) (polynomialWords l S (witnessOf n positions) v) j ≡ polynomial S (witnessOf n positions) (elements l (degree n) v) j
-    written = polynomial-written l S (witnessOf n positions) v
+  -- the tops of the polynomials are zero exactly when the positions solve the key
+  pub tops-solve : (v : List ℕ)
+      → ((j : ℕ) → j < n + m → top (K l) (degree n) (polynomial (systemOf l n m h x) (witnessOf n positions) (elements l (degree n) v) j) ≡ K l .zero) ↔ (Order n (positionAt positions) × Solves (keyOf l n m h x) (positionAt positions))
+  tops-solve v = tops (embed l) (keyOf l n m h x) (degree n) (positionAt positions) (elements l (degree n) v) (degree-fits n fits) small (K-distinct l width coordinates) (embed-injective l coordinates)
 
-    both : ((j : ℕ) → j < n + m → top (K l) (degree n) (polynomial S (witnessOf n positions) (elements l (degree n) v) j) ≡ K l .zero) ↔ (Order n (positionAt positions) × Solves (keyOf l n m h x) (positionAt positions))
-    both = tops (embed l) (keyOf l n m h x) (degree n) (positionAt positions) (elements l (degree n) v) (degree-fits n fits) small (K-distinct l width coordinates) (embed-injective l coordinates)
+  -- demand 3
+  pub truth : (u v : List ℕ) → Truth l n m h x positions u v (maskedBytes (systemOf l n m h x) (witnessOf n positions) u) (polynomialWords l (systemOf l n m h x) (witnessOf n positions) v)
+  truth u v = record {
+    agrees = agrees l S (witnessOf n positions) u v;
+    tops = (λ e. tops-solve v .0 (λ j a. ap (top (K l) (degree n)) (sym (written j a)) ∙ e j a), λ s j a. ap (top (K l) (degree n)) (written j a) ∙ tops-solve v .1 s j a);
+  }
+    where
+      written : (j : ℕ) → j < n + m → polynomialAt l (degree n) (polynomialWords l S (witnessOf n positions) v) j ≡ polynomial S (witnessOf n positions) (elements l (degree n) v) j
+      written = polynomial-written l S (witnessOf n positions) v

@@ -1,17 +1,21 @@
 // The entries constraints and values: document 01, 'The polynomials'.
 ghost use mathlib.Core.Path.{_≡_};
+ghost use mathlib.Core.List.{List};
+ghost use Prim.Native.Nat.{ℕ};
 ghost use lib.Dec.{eqb};
+ghost use lib.ListN.{length};
 ghost use Rattle.lists.specs.Lent.{long};
 ghost use Rattle.refusal.specs.Answer.{firstOf};
 ghost use Rattle.field.specs.Level.{levelAt};
-ghost use Rattle.key.specs.Key.{Sized};
-ghost use Rattle.constraints.specs.Entry.{constraintsLent, constraintsValues, constraintsRows, constraintsOutcome, valuesLent, valuesValues, valuesRows, valuesOutcome, system};
+ghost use Rattle.rows.specs.Elements.{Words, Bits};
+ghost use Rattle.rows.specs.Outcome.{LentKey};
+ghost use Rattle.key.specs.Key.{Sized, lengths};
+ghost use Rattle.constraints.specs.Entry.{constraintsLent, constraintsRows, constraintsOutcome, valuesLent, valuesRows, valuesOutcome, system};
 ghost use Rattle.refusal.specs.declared.Answer.the-variants.{Done};
 ghost use Rattle.constraints.specs.Slices.{maskedBytes, polynomialWords, valueWords, witnessOf};
 ghost use Rattle.constraints.specs.Truth.{Truth};
 use key::Key;
 use refusal::Answer;
-use refusal::Refusal;
 
 // Words of work space: d + 1 coefficients for each of 2^d columns, at the widest level.
 const WORK: usize = 5376;
@@ -28,41 +32,13 @@ fn constraints_lengths(
     p: &[u16],
 ) -> usize
     requires { ⌜ Sized (levelAt 1) key ⌝ }
-    ensures { λ r. ⌜ eqb r 0 ≡ long (constraintsLent (levelAt 1) key (now (h .entry)) (now (x .entry)) (now (positions .entry)) (now (u .entry)) (now (v .entry)) (now (t .entry)) (now (p .entry))) ⌝ }
+    ensures { λ r. ⌜ eqb r 0 ≡ long (constraintsLent (lengths (levelAt 1) key) (now (h .entry)) (now (x .entry)) (now (positions .entry)) (now (u .entry)) (now (v .entry)) (now (t .entry)) (now (p .entry))) ⌝ }
 {
     let n = key.lengths(1);
     let outputs = (t.len() ^ n.bits) | (p.len() ^ n.polynomials);
     let material = (positions.len() ^ n.positions)
         | ((u.len() ^ n.bits) | ((v.len() ^ n.elements) | outputs));
     (h.len() ^ n.matrix) | ((x.len() ^ n.vector) | material)
-}
-
-// The first refusal of the values lent to constraints that applies, or Done.
-fn constraints_values(
-    key: Key,
-    h: &[u16],
-    x: &[u16],
-    positions: &[u8],
-    u: &[u8],
-    v: &[u16],
-) -> Answer
-    requires { ⌜ Sized (levelAt 1) key ⌝ }
-    ensures { λ r. ⌜ r ≡ firstOf (constraintsValues (levelAt 1) key (now (h .entry)) (now (x .entry)) (now (positions .entry)) (now (u .entry)) (now (v .entry))) ⌝ }
-{
-    let elements = key::elements(h, x, 1);
-    if let Answer::Refused(_) = elements {
-        return elements;
-    }
-    if key::over(u, 1) != 0 {
-        return Answer::Refused(Refusal::BIT);
-    }
-    if field::excess(v, 1) != 0 {
-        return Answer::Refused(Refusal::COORDINATE);
-    }
-    if key::over(positions, key.degree()) != 0 {
-        return Answer::Refused(Refusal::POSITION);
-    }
-    Answer::Done
 }
 
 // The first refusal of constraints that applies, or Done.
@@ -82,10 +58,16 @@ fn constraints_refused(
     if let Answer::Refused(_) = sizes {
         return sizes;
     }
-    if constraints_lengths(key, h, x, positions, u, v, t, p) != 0 {
-        return Answer::Refused(Refusal::LENGTH);
-    }
-    constraints_values(key, h, x, positions, u, v)
+    let lengths = constraints_lengths(key, h, x, positions, u, v, t, p);
+    let elements = field::excess(h, 1) | field::excess(x, 1);
+    let positions = key::over(positions, key.degree());
+    key::checks(
+        lengths,
+        elements,
+        key::over(u, 1),
+        field::excess(v, 1),
+        positions,
+    )
 }
 
 // Zero exactly when each slice of values has its length.
@@ -99,32 +81,12 @@ fn values_lengths(
     p: &[u16],
 ) -> usize
     requires { ⌜ Sized (levelAt 1) key ⌝ }
-    ensures { λ r. ⌜ eqb r 0 ≡ long (valuesLent (levelAt 1) key (now (h .entry)) (now (x .entry)) (now (t .entry)) (now (q .entry)) (now (delta .entry)) (now (p .entry))) ⌝ }
+    ensures { λ r. ⌜ eqb r 0 ≡ long (valuesLent (lengths (levelAt 1) key) (now (h .entry)) (now (x .entry)) (now (t .entry)) (now (q .entry)) (now (delta .entry)) (now (p .entry))) ⌝ }
 {
     let n = key.lengths(1);
     let material = (t.len() ^ n.bits)
         | ((q.len() ^ n.elements) | ((delta.len() ^ n.one) | (p.len() ^ n.values)));
     (h.len() ^ n.matrix) | ((x.len() ^ n.vector) | material)
-}
-
-// The first refusal of the values lent to values that applies, or Done.
-fn values_values(h: &[u16], x: &[u16], t: &[u8], q: &[u16], delta: &[u16]) -> Answer
-    ensures { λ r. ⌜ r ≡ firstOf (valuesValues (levelAt 1) (now (h .entry)) (now (x .entry)) (now (t .entry)) (now (q .entry)) (now (delta .entry))) ⌝ }
-{
-    let elements = key::elements(h, x, 1);
-    if let Answer::Refused(_) = elements {
-        return elements;
-    }
-    if key::over(t, 1) != 0 {
-        return Answer::Refused(Refusal::BIT);
-    }
-    if field::excess(q, 1) != 0 {
-        return Answer::Refused(Refusal::COORDINATE);
-    }
-    if field::excess(delta, 1) != 0 {
-        return Answer::Refused(Refusal::COORDINATE);
-    }
-    Answer::Done
 }
 
 // The first refusal of values that applies, or Done.
@@ -143,32 +105,32 @@ fn values_refused(
     if let Answer::Refused(_) = sizes {
         return sizes;
     }
-    if values_lengths(key, h, x, t, q, delta, p) != 0 {
-        return Answer::Refused(Refusal::LENGTH);
-    }
-    values_values(h, x, t, q, delta)
+    let lengths = values_lengths(key, h, x, t, q, delta, p);
+    let elements = field::excess(h, 1) | field::excess(x, 1);
+    let coordinates = field::excess(q, 1) | field::excess(delta, 1);
+    key::checks(lengths, elements, key::over(t, 1), coordinates, 0)
 }
 
-// Writes t and the polynomials.
-fn constraints_work(
-    key: Key,
-    h: &[u16],
-    x: &[u16],
-    positions: &[u8],
-    u: &[u8],
-    v: &[u16],
-    t: &mut [u8],
-    p: &mut [u16],
-)
-    requires { ⌜ firstOf (constraintsRows (levelAt 1) key (now h) (now x) (now positions) (now u) (now v) (now t) (now p)) ≡ Done ⌝ }
-    ensures { λ _. ⌜ (now (t .exit) ≡ maskedBytes (system (levelAt 1) key (now (h .entry)) (now (x .entry))) (witnessOf (key .n) (now (positions .entry))) (now (u .entry))) × (now (p .exit) ≡ polynomialWords (levelAt 1) (system (levelAt 1) key (now (h .entry)) (now (x .entry))) (witnessOf (key .n) (now (positions .entry))) (now (v .entry))) ⌝ }
+// Writes the masked witness.
+pub fn write_masked_witness(key: Key, positions: &[u8], u: &[u8], t: &mut [u8])
+    requires { ⌜ Sized (levelAt 1) key × Bits (now u) ⌝ }
+    requires { ⌜ (length (now positions) ≡ lengths (levelAt 1) key .positions) × (length (now u) ≡ lengths (levelAt 1) key .bits) × (length (now t) ≡ lengths (levelAt 1) key .bits) ⌝ }
+    ensures { λ _. ⌜ ((h x : List ℕ) → now (t .exit) ≡ maskedBytes (system (levelAt 1) key h x) (witnessOf (key .n) (now (positions .entry))) (now (u .entry))) ⌝ }
+{
+    let n = key.n;
+    rows::masked_witness(t, positions, u, n, key.degree());
+}
+
+// Writes the polynomials.
+pub fn write_polynomials(key: Key, h: &[u16], x: &[u16], positions: &[u8], v: &[u16], p: &mut [u16])
+    requires { ⌜ Sized (levelAt 1) key × LentKey (levelAt 1) (key .n) (key .m) (now h) (now x) × Words (levelAt 1) (now v) ⌝ }
+    requires { ⌜ (length (now positions) ≡ lengths (levelAt 1) key .positions) × (length (now v) ≡ lengths (levelAt 1) key .elements) × (length (now p) ≡ lengths (levelAt 1) key .polynomials) ⌝ }
+    ensures { λ _. ⌜ now (p .exit) ≡ polynomialWords (levelAt 1) (system (levelAt 1) key (now (h .entry)) (now (x .entry))) (witnessOf (key .n) (now (positions .entry))) (now (v .entry)) ⌝ }
 {
     let n = key.n;
     let m = key.m;
-    let d = key.degree();
-    rows::masked_witness(t, positions, u, n, d);
     let mut work = [0u16; WORK];
-    rows::polynomials(p, n, m, d, h, x, positions, v, &mut work, 1);
+    rows::polynomials(p, n, m, key.degree(), h, x, positions, v, &mut work, 1);
 }
 
 // Writes t, the masked witness, and all polynomials, polynomial 0 first.
@@ -188,7 +150,8 @@ pub fn constraints(
     let answer = constraints_refused(key, h, x, positions, u, v, t, polynomials);
     match answer {
         Answer::Done => {
-            constraints_work(key, h, x, positions, u, v, t, polynomials);
+            write_masked_witness(key, positions, u, t);
+            write_polynomials(key, h, x, positions, v, polynomials);
         }
         Answer::Refused(_) => {}
     }
@@ -196,15 +159,23 @@ pub fn constraints(
 }
 
 // Writes the values.
-fn values_work(key: Key, h: &[u16], x: &[u16], t: &[u8], q: &[u16], delta: &[u16], p: &mut [u16])
-    requires { ⌜ firstOf (valuesRows (levelAt 1) key (now h) (now x) (now t) (now q) (now delta) (now p)) ≡ Done ⌝ }
+pub fn write_values(
+    key: Key,
+    h: &[u16],
+    x: &[u16],
+    t: &[u8],
+    q: &[u16],
+    delta: &[u16],
+    p: &mut [u16],
+)
+    requires { ⌜ Sized (levelAt 1) key × LentKey (levelAt 1) (key .n) (key .m) (now h) (now x) × Bits (now t) × Words (levelAt 1) (now q) × Words (levelAt 1) (now delta) ⌝ }
+    requires { ⌜ (length (now t) ≡ lengths (levelAt 1) key .bits) × (length (now q) ≡ lengths (levelAt 1) key .elements) × (length (now delta) ≡ lengths (levelAt 1) key .one) × (length (now p) ≡ lengths (levelAt 1) key .values) ⌝ }
     ensures { λ _. ⌜ now (p .exit) ≡ valueWords (levelAt 1) (system (levelAt 1) key (now (h .entry)) (now (x .entry))) (now (t .entry)) (now (q .entry)) (now (delta .entry)) ⌝ }
 {
     let n = key.n;
     let m = key.m;
-    let d = key.degree();
     let mut work = [0u16; WORK];
-    rows::values(p, n, m, d, h, x, t, q, delta, &mut work, 1);
+    rows::values(p, n, m, key.degree(), h, x, t, q, delta, &mut work, 1);
 }
 
 // Writes the n + m values.
@@ -222,7 +193,7 @@ pub fn values(
     let answer = values_refused(key, h, x, t, q, delta, values);
     match answer {
         Answer::Done => {
-            values_work(key, h, x, t, q, delta, values);
+            write_values(key, h, x, t, q, delta, values);
         }
         Answer::Refused(_) => {}
     }

@@ -1,2 +1,5 @@
 pub mod Carried
+pub mod Decided
+pub mod KeyA
 pub mod Hold
+pub mod Accepted

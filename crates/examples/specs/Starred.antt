@@ -6,9 +6,16 @@ use Rattle.lists.specs.Words.{part, concat}
 use Rattle.field.specs.Ring.{Ring}
 use Rattle.field.specs.Level.{first, F, K}
 use Rattle.field.specs.Word.{small, word, element, words}
-use Rattle.key.specs.Key.{degree}
+use Rattle.refusal.specs.Answer.{numberOf}
+use Rattle.refusal.specs.Verdict.{verdictNumber}
+use Rattle.refusal.specs.declared.Answer.{Answer}
+use Rattle.refusal.specs.declared.Verdict.{Verdict}
+use Rattle.key.specs.declared.Key.{Key}
+use Rattle.key.specs.Key.{degree, lengths}
 use Rattle.constraints.specs.System.{System}
 use Rattle.constraints.specs.Slices.{maskedBytes, polynomialWords, valueWords, systemOf, witnessOf}
+use Rattle.prover.specs.Entry.{proveOutcome}
+use Rattle.verifier.specs.Entry.{verifyOutcome}
 
 pub record Example : Type 0 where
   pub given : List ℕ
@@ -36,7 +43,7 @@ unfoldable pub bares : List ℕ → List ℕ
 bares [] = []
 bares (a ∷ s) = bare a ++ bares s
 
--- a key with offsets v and mask bits u; elements of K are bare numbers
+-- a key with offsets v, mask bits u, masks r and s, and weights α; elements of K are bare numbers
 pub record Numbers : Type 0 where
   pub n : ℕ
   pub m : ℕ
@@ -44,9 +51,12 @@ pub record Numbers : Type 0 where
   pub x : List ℕ
   pub v : List ℕ
   pub u : List ℕ
+  pub r : List ℕ
+  pub s : List ℕ
+  pub α : List ℕ
 
 module _ (key : Numbers) where
-  open Numbers key using (n, m, H, x, v, u)
+  open Numbers key using (n, m, H, x, v, u, r, s, α)
 
   abbrev system : System (K first)
   system = systemOf first n m H x
@@ -66,13 +76,24 @@ module _ (key : Numbers) where
   unfoldable pub valuesOf : (t q : List ℕ) (Δ : ℕ) → List ℕ
   valuesOf t q Δ = valueWords first system t (bares q) (bare Δ)
 
--- "Key A is n = 2, m = 1, H = (2 1), x = (1 2), v = (1, 4), u = (1, 0)."
-abbrev pub A : Numbers
-A = record { n = 2; m = 1; H = 2 ∷ 1 ∷ []; x = 1 ∷ 2 ∷ []; v = 1 ∷ 4 ∷ []; u = 1 ∷ 0 ∷ [] }
+  abbrev pub sizes : Key
+  sizes = record { n = n; m = m }
 
--- "n = 3": the document leaves the other numbers open, as the column tops do not depend on them
+  -- what prove answers and leaves in t and a, lent as zeros of their lengths
+  unfoldable pub proveOf : (positions : List ℕ) → Answer × (List ℕ × List ℕ)
+  proveOf positions = proveOutcome first sizes H x positions u (bares v) (bares r) (bares s) (bares α) (replicate (lengths first sizes .bits) 0) (replicate (lengths first sizes .proof) 0)
+
+  -- what verify answers
+  unfoldable pub verdictOf : (t q : List ℕ) (Δ : ℕ) (masks a : List ℕ) → Verdict
+  verdictOf t q Δ masks a = verifyOutcome first sizes H x t (bares q) (bare Δ) (bares masks) (bares α) (bares a)
+
+-- "Key A is n = 2, m = 1, H = (2 1), x = (1 2), v = (1, 4), u = (1, 0)."; "α = 1, 2, 1"; d is 1, so there are no masks
+abbrev pub A : Numbers
+A = record { n = 2; m = 1; H = 2 ∷ 1 ∷ []; x = 1 ∷ 2 ∷ []; v = 1 ∷ 4 ∷ []; u = 1 ∷ 0 ∷ []; r = []; s = []; α = 1 ∷ 2 ∷ 1 ∷ [] }
+
+-- "n = 3": the document leaves the other numbers open, as neither the column tops nor this answer of prove depend on them
 abbrev pub three : Numbers
-three = record { n = 3; m = 1; H = 1 ∷ 0 ∷ 0 ∷ []; x = 0 ∷ 1 ∷ 2 ∷ []; v = 1 ∷ 2 ∷ 3 ∷ 4 ∷ 5 ∷ 6 ∷ []; u = replicate 6 0 }
+three = record { n = 3; m = 1; H = 1 ∷ 0 ∷ 0 ∷ []; x = 0 ∷ 1 ∷ 2 ∷ []; v = 1 ∷ 2 ∷ 3 ∷ 4 ∷ 5 ∷ 6 ∷ []; u = replicate 6 0; r = 7 ∷ []; s = 8 ∷ []; α = 1 ∷ 2 ∷ 3 ∷ 4 ∷ [] }
 
 abbrev pub starred : List Example
 starred =
@@ -91,8 +112,14 @@ starred =
     ∷ record { given = polynomialsOf A (0 ∷ 1 ∷ []); stated = bares (5 ∷ 0 ∷ 5 ∷ 0 ∷ 10 ∷ 0 ∷ []) }
     -- "the same, Δ = 2, q = 3, 4": "values 5, 5, 10"
     ∷ record { given = valuesOf A (1 ∷ 1 ∷ []) (3 ∷ 4 ∷ []) 2; stated = bares (5 ∷ 5 ∷ 10 ∷ []) }
+    -- "the same, α = 1, 2, 1": "a = 5, accepted; a = 4 rejected"
+    ∷ record { given = numberOf (proveOf A (0 ∷ 1 ∷ []) .0) ∷ []; stated = 0 ∷ [] }
+    ∷ record { given = proveOf A (0 ∷ 1 ∷ []) .1 .1; stated = bares (5 ∷ []) }
+    ∷ record { given = verdictNumber (verdictOf A (1 ∷ 1 ∷ []) (3 ∷ 4 ∷ []) 2 [] (5 ∷ [])) ∷ []; stated = 0 ∷ [] }
+    ∷ record { given = verdictNumber (verdictOf A (1 ∷ 1 ∷ []) (3 ∷ 4 ∷ []) 2 [] (4 ∷ [])) ∷ []; stated = 255 ∷ [] }
     -- "n = 3, positions 1 1 1": "column tops 1, 0, 1"
     ∷ record { given = columnTops three (1 ∷ 1 ∷ 1 ∷ []); stated = bares (1 ∷ 0 ∷ 1 ∷ []) }
-    -- "n = 3, positions 0 1 3": "column tops 0, 0, 1"
+    -- "n = 3, positions 0 1 3": "column tops 0, 0, 1; prove answers 8"
     ∷ record { given = columnTops three (0 ∷ 1 ∷ 3 ∷ []); stated = bares (0 ∷ 0 ∷ 1 ∷ []) }
+    ∷ record { given = numberOf (proveOf three (0 ∷ 1 ∷ 3 ∷ []) .0) ∷ []; stated = 8 ∷ [] }
     ∷ []

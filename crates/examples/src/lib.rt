@@ -1,13 +1,16 @@
-// The starred examples of document 01 as statements about the definitions, and a caller that relies on the contracts of
-// constraints and values alone.
+// The starred examples of document 01 as statements about the definitions, and callers that rely on the contracts of the
+// entries alone.
 ghost use mathlib.Core.Path.{_≡_};
 ghost use Prim.Native.Nat.{ℕ, _+_, _<_};
 ghost use Rattle.refusal.specs.declared.Answer.the-variants.{Done};
+ghost use Rattle.refusal.specs.declared.Verdict.the-variants.{Accepted};
 ghost use Rattle.field.specs.Level.{levelAt};
 ghost use Rattle.constraints.specs.Slices.{elementAt, systemOf};
 ghost use Rattle.constraints.specs.Truth.{HonestNumbers, evaluated};
+ghost use Rattle.verifier.specs.Complete.{HonestVerifier};
 use key::Key;
 use refusal::Answer;
+use refusal::Verdict;
 
 pub struct Answers {
     pub constraints: Answer,
@@ -35,5 +38,37 @@ pub fn agreement(
     Answers {
         constraints: written,
         values: valued,
+    }
+}
+
+pub struct Judgement {
+    pub prove: Answer,
+    pub verify: Verdict,
+}
+
+// Completeness: wherever prove is done and the verifier is honest, what prove has written is accepted.
+pub fn completeness(
+    key: Key,
+    h: &[u16],
+    x: &[u16],
+    positions: &[u8],
+    u: &[u8],
+    v: &[u16],
+    r: &[u16],
+    s: &[u16],
+    alpha: &[u16],
+    t: &mut [u8],
+    a: &mut [u16],
+    q: &[u16],
+    delta: &[u16],
+    masks: &[u16],
+) -> Judgement
+    ensures { λ o. ⌜ (o .prove ≡ Done → HonestVerifier (levelAt 1) key (now (h .entry)) (now (x .entry)) (now (u .entry)) (now (v .entry)) (now (r .entry)) (now (s .entry)) (now (q .entry)) (now (delta .entry)) (now (masks .entry)) → o .verify ≡ Accepted) ⌝ }
+{
+    let proved = prover::prove(key, h, x, positions, u, v, r, s, alpha, t, a);
+    let judged = verifier::verify(key, h, x, t, q, delta, masks, alpha, a);
+    Judgement {
+        prove: proved,
+        verify: judged,
     }
 }

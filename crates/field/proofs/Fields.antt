@@ -1,7 +1,7 @@
 -- F and K of every level: one is not zero in either, and F lies in K injectively. The ring laws are part of F and K.
 use mathlib.Core.Path.{_≡_, sym}
 use mathlib.Core.Bool.{true, false, false≢true}
-use Prim.Native.Nat.{ℕ, _^_, _≤_, _<_}
+use Prim.Native.Nat.{ℕ, _+_, _^_, _≤_, _<_}
 use native.Mathlib.Omega.{arith}
 use Rattle.field.specs.Binary.{binary}
 use Rattle.field.specs.QuotientLaws.{one-not-zero, constant-injective}
@@ -28,7 +28,8 @@ pub record Bounded (l : Level) : Type 0 where
   pub most : l .most ≤ 64
   pub narrow : l .coordinates ≤ 12
   pub limit : l .limit < 2 ^ l .width
+  pub whole : 2 ^ l .width ≤ l .limit + 1
 
 pub bounded : (number : ℕ) → Bounded (levelAt number)
 unfolding levelAt
-bounded number = record { width = omega arith; coordinates = omega arith; most = omega arith; narrow = omega arith; limit = omega arith }
+bounded number = record { width = omega arith; coordinates = omega arith; most = omega arith; narrow = omega arith; limit = omega arith; whole = omega arith }

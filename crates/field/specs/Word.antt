@@ -2,9 +2,10 @@
 use mathlib.Core.Bool.{Bool, true, false, cond}
 use mathlib.Core.List.{List, [], _∷_}
 use Prim.Native.Nat.{ℕ, zero, suc, _+_, _*_, _/_, _%_}
-use lib.Dec.{leb}
+use lib.Dec.{leb, eqb}
 use lib.ListN.{getD}
 use Rattle.lists.specs.Words.{all}
+use Rattle.field.specs.Ring.{Ring}
 use Rattle.field.specs.Vector.{Vector}
 use Rattle.field.specs.Level.{F, K}
 use Rattle.field.specs.declared.Level.{Level}
@@ -52,3 +53,11 @@ words l a = list (l .coordinates) (word l) a
 -- no word is above the level's limit
 unfoldable pub within : Level → List ℕ → Bool
 within l s = all (λ x. leb x (l .limit)) s
+
+-- an element of K is zero: its words are
+unfoldable pub isZero : (l : Level) → K l .Carrier → Bool
+isZero l a = all (λ x. eqb x 0) (words l a)
+
+-- two elements of K are equal: their difference is zero, and minus is plus
+unfoldable pub equal : (l : Level) → (a b : K l .Carrier) → Bool
+equal l a b = isZero l (K l .add a b)

@@ -9,7 +9,7 @@ ghost use Rattle.lists.specs.Words.{part, put};
 ghost use Rattle.field.specs.Ring.{Ring, Hom};
 ghost use Rattle.field.specs.Binary.{bit};
 ghost use Rattle.field.specs.Level.{levelAt, F, K, embed, Y};
-ghost use Rattle.field.specs.Word.{odd, small, words, within};
+ghost use Rattle.field.specs.Word.{odd, small, words, within, isZero};
 ghost use Rattle.field.specs.Packed.{Holds, Tabulates};
 use refusal::Answer;
 use refusal::Refusal;
@@ -121,6 +121,17 @@ impl Element {
         ensures { λ r. ⌜ ((x y : K (levelAt level) .Carrier) → Holds (levelAt level) (self .words) x → Holds (levelAt level) (other .words) y → Holds (levelAt level) (r .words) (K (levelAt level) .mul x y)) ⌝ }
     {
         Multiples::of(self, level).times(other, level)
+    }
+
+    // Zero exactly when the element is zero.
+    pub fn nonzero(self, level: usize) -> u16
+        ensures { λ r. ⌜ ((x : K (levelAt level) .Carrier) → Holds (levelAt level) (self .words) x → eqb r 0 ≡ isZero (levelAt level) x) ⌝ }
+    {
+        let mut any: u16 = 0;
+        for i in 0..12usize {
+            any = any | packed::coordinate(self, i);
+        }
+        any
     }
 
     // The element where b is 1, and zero where it is 0.

@@ -1,2 +1,3 @@
 pub mod Sized
 pub mod Fine
+pub mod Checked

@@ -3,9 +3,12 @@ use mathlib.Core.Path.{_≡_, ap}
 use Prim.Native.Nat.{ℕ, _+_, _-_, _*_, _^_, _≤_, _<_}
 use native.Mathlib.Decide.{decLt}
 use native.Mathlib.Omega.{arith}
-use borrow.Author.Tests.{ltb-false, leb-false, eqb-false}
+use mathlib.Core.List.{[], _∷_}
+use borrow.Author.Tests.{le-ltb, lt-leb, ne-eqb, ltb-false, leb-false, eqb-false}
 use lib.Count.{leadingZeros, leading-length}
 use lib.Pow.{pow-mono}
+use Rattle.refusal.specs.Answer.{firstOf}
+use Rattle.refusal.specs.declared.Answer.the-variants.{Done}
 use Rattle.refusal.proofs.Answers.{None}
 use Rattle.field.specs.declared.Level.{Level}
 use Rattle.key.specs.declared.Key.{Key}
@@ -18,6 +21,9 @@ sized l key e = record {
   some = omega (arith, eqb-false (key .m) 0 (e .1 .1 .0));
   fewer = leb-false (key .n) (key .m) (e .1 .1 .1 .0);
 }
+
+pub sizes-done : (l : Level) (key : Key) → Sized l key → firstOf (sizes l key) ≡ Done
+sizes-done l key s = λ t. firstOf ((le-ltb (key .n) 2 (s .two) t, 1) ∷ (le-ltb (l .most) (key .n) (s .most) t, 1) ∷ (ne-eqb (key .m) 0 (omega (arith, s .some)) t, 2) ∷ (lt-leb (key .n) (key .m) (s .fewer) t, 2) ∷ [])
 
 -- n - 1 has d digits
 digits : (n : ℕ) → n < 2 ^ 64 → (n - 1 < 2 ^ degree n) × (2 ^ degree n ≤ 2 * (n - 1) + 1)
@@ -40,3 +46,11 @@ degree-lt n k p h b = pick (decLt (degree n) k)
     pick : Dec (degree n < k) → degree n < k
     pick (yes l) = l
     pick (no g) = absurd (omega (arith, digits n h, pow-mono {i = k} {j = degree n} (omega arith)))
+
+-- a key has at least one digit
+pub degree-some : (n : ℕ) → 2 ≤ n → n < 2 ^ 64 → 1 ≤ degree n
+degree-some n p h = pick (decLt 0 (degree n))
+  where
+    pick : Dec (0 < degree n) → 1 ≤ degree n
+    pick (yes l) = l
+    pick (no g) = let none : degree n ≡ 0 = omega arith in absurd (omega (arith, degree-fits n h, ap (λ k. 2 ^ k) none))

@@ -1,5 +1,5 @@
 -- The key: its sizes, d, and when it is well formed.
-use mathlib.Core.Bool.{Bool, not}
+use mathlib.Core.Bool.{Bool, true, not, _&&_}
 use mathlib.Core.List.{List, [], _∷_}
 use Prim.Native.Nat.{ℕ, _+_, _-_, _*_, _^_, _≤_, _<_}
 use lib.Count.{leadingZeros}
@@ -35,6 +35,8 @@ lengths l key = record {
   elements = l .coordinates * (shape key .rows * shape key .places);
   polynomials = l .coordinates * (shape key .size * (shape key .degree + 1));
   values = l .coordinates * shape key .size;
+  masks = l .coordinates * (shape key .degree - 1);
+  proof = l .coordinates * shape key .degree;
   one = l .coordinates;
 }
 
@@ -49,10 +51,17 @@ pub record Sized (l : Level) (key : Key) : Type 0 where
   pub some : 0 < key .m
   pub fewer : key .m < key .n
 
--- place 'key': "an element of H or x is above 2047", the level's limit
-abbrev pub elements : Level → (h x : List ℕ) → List (Bool × ℕ)
-elements l h x = (not (within l h), 4) ∷ (not (within l x), 4) ∷ []
+-- no word of any of the slices is above the level's limit
+abbrev pub withins : Level → List (List ℕ) → Bool
+withins l [] = true
+withins l (s ∷ others) = within l s && withins l others
 
 -- every byte has at most k binary digits
 unfoldable pub below : ℕ → List ℕ → Bool
 below k s = all (λ b. ltb b (2 ^ k)) s
+
+-- places 'slices', 'key' and 'material', a row for each number; of each whether it is in order:
+-- 3 "a lent slice isn't of its stated length", 4 "an element of H or x is above 2047", 5 "a byte of u or t is above 1",
+-- 6 "a coordinate of an element of K is above 2047", 7 "a position is 2^d or more"
+abbrev pub checks : (slices key bits coordinates positions : Bool) → List (Bool × ℕ)
+checks slices key bits coordinates positions = (not slices, 3) ∷ (not key, 4) ∷ (not bits, 5) ∷ (not coordinates, 6) ∷ (not positions, 7) ∷ []

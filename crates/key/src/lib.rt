@@ -4,7 +4,7 @@ ghost use Prim.Native.Nat.{_+_, _^_, _≤_, _<_};
 ghost use lib.Dec.{eqb};
 ghost use Rattle.refusal.specs.Answer.{firstOf};
 ghost use Rattle.field.specs.Level.{levelAt};
-ghost use Rattle.key.specs.Key.{degree, lengths, sizes, Sized, elements, below};
+ghost use Rattle.key.specs.Key.{degree, lengths, sizes, Sized, below, checks};
 use field::Level;
 use refusal::Answer;
 use refusal::Refusal;
@@ -16,7 +16,7 @@ pub struct Key {
 }
 
 // The lengths of lent slices, in bytes or words: H, x, positions, bits, elements of K for the correlations, all polynomials,
-// all values, and one element of K.
+// all values and as many weights, the masks, the proof, and one element of K.
 pub struct Lengths {
     pub matrix: usize,
     pub vector: usize,
@@ -25,6 +25,8 @@ pub struct Lengths {
     pub elements: usize,
     pub polynomials: usize,
     pub values: usize,
+    pub masks: usize,
+    pub proof: usize,
     pub one: usize,
 }
 
@@ -57,6 +59,8 @@ impl Key {
             elements: w * bits,
             polynomials: w * (size * (d + 1)),
             values: w * size,
+            masks: w * (d - 1),
+            proof: w * d,
             one: w,
         }
     }
@@ -84,19 +88,6 @@ impl Key {
     }
 }
 
-// The first refusal of the elements of H and x that applies.
-pub fn elements(h: &[u16], x: &[u16], level: usize) -> Answer
-    ensures { λ r. ⌜ r ≡ firstOf (elements (levelAt level) (now (h .entry)) (now (x .entry))) ⌝ }
-{
-    if field::excess(h, level) != 0 {
-        return Answer::Refused(Refusal::KEY);
-    }
-    if field::excess(x, level) != 0 {
-        return Answer::Refused(Refusal::KEY);
-    }
-    Answer::Done
-}
-
 // Zero exactly when every byte of s is below 2^digits.
 pub fn over(s: &[u8], digits: usize) -> u8
     requires { ⌜ digits < 8 ⌝ }
@@ -109,4 +100,26 @@ pub fn over(s: &[u8], digits: usize) -> u8
         i += 1;
     }
     any >> digits
+}
+
+// The first of refusals 3 to 7 that applies; each is told by a number that is zero where it does not.
+pub fn checks(slices: usize, elements: u16, bits: u8, coordinates: u16, positions: u8) -> Answer
+    ensures { λ r. ⌜ r ≡ firstOf (checks (eqb slices 0) (eqb elements 0) (eqb bits 0) (eqb coordinates 0) (eqb positions 0)) ⌝ }
+{
+    if slices != 0 {
+        return Answer::Refused(Refusal::LENGTH);
+    }
+    if elements != 0 {
+        return Answer::Refused(Refusal::KEY);
+    }
+    if bits != 0 {
+        return Answer::Refused(Refusal::BIT);
+    }
+    if coordinates != 0 {
+        return Answer::Refused(Refusal::COORDINATE);
+    }
+    if positions != 0 {
+        return Answer::Refused(Refusal::POSITION);
+    }
+    Answer::Done
 }

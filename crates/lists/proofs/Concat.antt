@@ -1,6 +1,6 @@
 -- Lists of equal length, one after the other, and their parts.
 use mathlib.Core.Path.{_≡_, refl, sym, _∙_, ap, ap₂}
-use mathlib.Core.Bool.{Bool, true, false}
+use mathlib.Core.Bool.{Bool, true, false, _&&_}
 use mathlib.Core.List.{List, [], _∷_, _++_, append-nil, append-assoc}
 use Prim.Native.Nat.{ℕ, zero, suc, _+_, _*_, _<_, _≤_}
 use native.Mathlib.Nat.{add-zero, add-suc, mul-suc, mul-zero, mul-add, mul-comm, mul-assoc, mul-le-mul-left}
@@ -9,7 +9,8 @@ use lib.Dec.{eqb}
 use borrow.Author.Tests.{eqb-true, eqb-false}
 use lib.ListN.{length, take, drop, length-append, length-drop}
 use lib.Seq.{take-append-le, drop-append-le, take-all, drop-at, drop-drop, take-take}
-use Rattle.lists.specs.Words.{part, concat}
+use Rattle.lists.specs.Words.{part, all, concat}
+use Rattle.lists.proofs.Words.{all-append}
 
 pub concat-cong : (n : ℕ) (f g : ℕ → List ℕ) → ((i : ℕ) → i < n → f i ≡ g i) → concat n f ≡ concat n g
 unfolding concat
@@ -34,6 +35,12 @@ module _ (size : ℕ) (f : ℕ → List ℕ) (each : (i : ℕ) → length (f i) 
         where
           room : size * suc i ≤ size * n
           room = mul-le-mul-left size (omega (arith, eqb-false i n e))
+
+-- a test that holds of every word of each list
+pub all-concat : (test : ℕ → Bool) (n : ℕ) (f : ℕ → List ℕ) → ((i : ℕ) → i < n → all test (f i) ≡ true) → all test (concat n f) ≡ true
+unfolding concat all
+all-concat test zero f h = refl
+all-concat test (suc n) f h = all-append test (concat n f) (f n) ∙ ap₂ _&&_ (all-concat test n f (λ i l. h i (omega arith))) (h n (omega arith))
 
 -- a part of a part
 pub part-part : (a b i n : ℕ) (s : List ℕ) → a + b ≤ n → part a b (part i n s) ≡ part (i + a) b s

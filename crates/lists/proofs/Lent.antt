@@ -1,6 +1,6 @@
 -- Lengths compared by exclusive or, and the differences joined by or: zero exactly when all are as stated.
 use mathlib.Core.Path.{_≡_, refl, sym, ap, ap₂, _∙_}
-use mathlib.Core.Bool.{Bool, true, false, _&&_}
+use mathlib.Core.Bool.{Bool, true, false, _&&_, and-eq-true-iff}
 use mathlib.Core.List.{List, [], _∷_}
 use Prim.Native.Nat.{ℕ, zero}
 use native.Mathlib.Decide.{ℕ-discrete}
@@ -28,16 +28,20 @@ or-none a b = go (ℕ-discrete a 0) (ℕ-discrete b 0)
     go (yes p) (no q) = ne-eqb (bitOr a b) 0 (λ e. q (omega (arith, or-add-and a b, and-le-l a b))) ∙ sym (ap₂ _&&_ (eq-eqb a 0 p) (ne-eqb b 0 q))
     go (no p) q = ne-eqb (bitOr a b) 0 (λ e. p (omega (arith, or-add-and a b, and-le-r a b))) ∙ sym (ap (λ t. t && eqb b 0) (ne-eqb a 0 p))
 
--- one slice more, and the last one
-pub long-more : (s : List ℕ) (n r : ℕ) (others : List (List ℕ × ℕ)) → eqb r 0 ≡ long others → eqb (bitOr (bitXor (length s) n) r) 0 ≡ long ((s, n) ∷ others)
-long-more s n r others e = or-none (bitXor (length s) n) r ∙ ap₂ _&&_ (xor-none (length s) n) e
+-- the differences of all lengths, joined
+abbrev pub differences : List (List ℕ × ℕ) → ℕ
+differences [] = 0
+differences ((s, n) ∷ []) = bitXor (length s) n
+differences ((s, n) ∷ other ∷ others) = bitOr (bitXor (length s) n) (differences (other ∷ others))
 
-pub long-last : (s : List ℕ) (n : ℕ) → eqb (bitXor (length s) n) 0 ≡ long ((s, n) ∷ [])
-long-last s n = xor-none (length s) n ∙ last (eqb (length s) n)
+pub differences-long : (slices : List (List ℕ × ℕ)) → eqb (differences slices) 0 ≡ long slices
+differences-long [] = refl
+differences-long ((s, n) ∷ []) = xor-none (length s) n ∙ last (eqb (length s) n)
   where
     last : (b : Bool) → b ≡ (b && true)
     last true = refl
     last false = refl
+differences-long ((s, n) ∷ other ∷ others) = or-none (bitXor (length s) n) (differences (other ∷ others)) ∙ ap₂ _&&_ (xor-none (length s) n) (differences-long (other ∷ others))
 
 -- each slice has its length
 abbrev pub Long : List (List ℕ × ℕ) → Type 0
@@ -46,13 +50,8 @@ Long ((s, n) ∷ others) = (length s ≡ n) × Long others
 
 pub each-long : (slices : List (List ℕ × ℕ)) → long slices ≡ true → Long slices
 each-long [] e = tt
-each-long ((s, n) ∷ others) e = (eqb-true (length s) n (left (eqb (length s) n) (long others) e), each-long others (right (eqb (length s) n) (long others) e))
-  where
-    left : (a b : Bool) → (a && b) ≡ true → a ≡ true
-    left true b e = refl
-    left false b e = e
+each-long ((s, n) ∷ others) e = let b = and-eq-true-iff (eqb (length s) n) (long others) .0 e in (eqb-true (length s) n (b .0), each-long others (b .1))
 
-    right : (a b : Bool) → (a && b) ≡ true → b ≡ true
-    right true b e = e
-    right false true e = refl
-    right false false e = e
+pub long-each : (slices : List (List ℕ × ℕ)) → Long slices → long slices ≡ true
+long-each [] h = refl
+long-each ((s, n) ∷ others) h = ap₂ _&&_ (eq-eqb (length s) n (h .0)) (long-each others (h .1))

@@ -1,6 +1,6 @@
 -- Laws of parts of lists, of tests of all words, and of loops that fill a list from the front.
 use mathlib.Core.Path.{_≡_, refl, sym, ap, ap₂, _∙_, subst}
-use mathlib.Core.Bool.{Bool, true, false, _&&_}
+use mathlib.Core.Bool.{Bool, true, false, _&&_, and-eq-true-iff}
 use mathlib.Core.List.{List, [], _∷_, _++_, append-nil}
 use Prim.Native.Nat.{ℕ, zero, suc, _+_, _≤_, _<_}
 use native.Mathlib.Decide.{decLt}
@@ -45,7 +45,7 @@ module _ (p : ℕ → Bool) where
   and-assoc false b c = refl
   and-assoc true b c = refl
 
-  all-append : (s t : List ℕ) → all p (s ++ t) ≡ (all p s && all p t)
+  pub all-append : (s t : List ℕ) → all p (s ++ t) ≡ (all p s && all p t)
   unfolding all
   all-append [] t = refl
   all-append (x ∷ s) t = ap (λ b. p x && b) (all-append s t) ∙ sym (and-assoc (p x) (all p s) (all p t))
@@ -58,17 +58,13 @@ module _ (p : ℕ → Bool) where
   pub all-at : (s : List ℕ) → all p s ≡ true → (k : ℕ) → k < length s → p (getD s k 0) ≡ true
   unfolding all
   all-at [] e k h = absurd (omega arith)
-  all-at (x ∷ s) e zero h = left (p x) (all p s) e
-    where
-      left : (a b : Bool) → (a && b) ≡ true → a ≡ true
-      left true b e = refl
-      left false b e = e
-  all-at (x ∷ s) e (suc k) h = all-at s (right (p x) (all p s) e) k (omega arith)
-    where
-      right : (a b : Bool) → (a && b) ≡ true → b ≡ true
-      right true b e = e
-      right false true e = refl
-      right false false e = e
+  all-at (x ∷ s) e zero h = and-eq-true-iff (p x) (all p s) .0 e .0
+  all-at (x ∷ s) e (suc k) h = all-at s (and-eq-true-iff (p x) (all p s) .0 e .1) k (omega arith)
+
+  pub all-from : (s : List ℕ) → ((k : ℕ) → k < length s → p (getD s k 0) ≡ true) → all p s ≡ true
+  unfolding all
+  all-from [] h = refl
+  all-from (x ∷ s) h = ap₂ _&&_ (h 0 (omega arith)) (all-from s (λ k l. h (suc k) (omega arith)))
 
   -- past the end a list has zeros
   pub all-everywhere : (s : List ℕ) → all p s ≡ true → p 0 ≡ true → (k : ℕ) → p (getD s k 0) ≡ true

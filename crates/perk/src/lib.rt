@@ -1,9 +1,13 @@
-// The C interface: a slice is a pointer and then a length in elements; 0 is done, any other result is the refusal's number.
+// The C interface: a slice is a pointer and then a length in elements; 0 is done or accepted, 255 is rejected,
+// any other result is the refusal's number.
 ghost use mathlib.Core.Path.{_≡_};
 ghost use Rattle.refusal.specs.Answer.{numbered};
+ghost use Rattle.refusal.specs.Verdict.{verdictNumber};
 ghost use Rattle.field.specs.Entry.{sumOutcome, productOutcome};
 ghost use Rattle.field.specs.Level.{levelAt};
 ghost use Rattle.constraints.specs.Entry.{constraintsOutcome, valuesOutcome};
+ghost use Rattle.prover.specs.Entry.{proveOutcome};
+ghost use Rattle.verifier.specs.Entry.{verifyOutcome};
 use key::Key;
 
 // The sum of two elements of K.
@@ -57,4 +61,46 @@ pub extern "C" fn perk_values(
 {
     let key = Key { n, m };
     refusal::number(constraints::values(key, h, x, t, q, delta, values))
+}
+
+// The masked witness and the proof.
+#[no_mangle]
+pub extern "C" fn perk_prove(
+    n: usize,
+    m: usize,
+    h: &[u16],
+    x: &[u16],
+    positions: &[u8],
+    u: &[u8],
+    v: &[u16],
+    r: &[u16],
+    s: &[u16],
+    alpha: &[u16],
+    t: &mut [u8],
+    a: &mut [u16],
+) -> u32
+    ensures { λ o. ⌜ (o, (now (t .exit), now (a .exit))) ≡ numbered (proveOutcome (levelAt 1) (record { n = n; m = m }) (now (h .entry)) (now (x .entry)) (now (positions .entry)) (now (u .entry)) (now (v .entry)) (now (r .entry)) (now (s .entry)) (now (alpha .entry)) (now (t .entry)) (now (a .entry))) ⌝ }
+{
+    let key = Key { n, m };
+    refusal::number(prover::prove(key, h, x, positions, u, v, r, s, alpha, t, a))
+}
+
+// Whether the proof is accepted.
+#[no_mangle]
+pub extern "C" fn perk_verify(
+    n: usize,
+    m: usize,
+    h: &[u16],
+    x: &[u16],
+    t: &[u8],
+    q: &[u16],
+    delta: &[u16],
+    masks: &[u16],
+    alpha: &[u16],
+    a: &[u16],
+) -> u32
+    ensures { λ o. ⌜ o ≡ verdictNumber (verifyOutcome (levelAt 1) (record { n = n; m = m }) (now (h .entry)) (now (x .entry)) (now (t .entry)) (now (q .entry)) (now (delta .entry)) (now (masks .entry)) (now (alpha .entry)) (now (a .entry))) ⌝ }
+{
+    let key = Key { n, m };
+    refusal::verdict_number(verifier::verify(key, h, x, t, q, delta, masks, alpha, a))
 }

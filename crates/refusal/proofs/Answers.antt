@@ -56,3 +56,7 @@ not-both d e = let z : _≡_ {A = ℕ} 0 1 = cc in omega arith
 -- where the answer is Done, what is left is the result
 pub result-of : {A : Type 0} (rows : List (Bool × ℕ)) (result old : A) {r : Answer} {s : A} → (r, s) ≡ decided rows result old → r ≡ Done → s ≡ result
 result-of {A} rows result old e d = ap (λ (o : Answer × A). o .1) e ∙ ap (λ a. written a result old) (sym (ap (λ (o : Answer × A). o .0) e) ∙ d)
+
+-- rows after rows of which none applies decide alone
+pub decided-after : {A : Type 0} (rows others : List (Bool × ℕ)) (result old : A) → firstOf rows ≡ Done → decided others result old ≡ decided (rows ++ others) result old
+decided-after {A} rows others result old e = λ t. (sym (after-done rows others e) t, written (sym (after-done rows others e) t) result old)

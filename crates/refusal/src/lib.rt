@@ -1,6 +1,7 @@
 // The refusals of document 01, with their numbers, and the answer of an entry that writes its results.
 ghost use mathlib.Core.Path.{_≡_};
 ghost use Rattle.refusal.specs.Answer.{numberOf};
+ghost use Rattle.refusal.specs.Verdict.{verdictNumber};
 
 // A refusal, by its number.
 pub struct Refusal {
@@ -40,6 +41,13 @@ pub enum Answer {
     Refused(Refusal),
 }
 
+// What verify answers.
+pub enum Verdict {
+    Accepted,
+    Rejected,
+    Refused(Refusal),
+}
+
 // The answer's number: 0 for Done, else the refusal's.
 pub fn number(answer: Answer) -> u32
     ensures { λ r. ⌜ r ≡ numberOf answer ⌝ }
@@ -47,5 +55,16 @@ pub fn number(answer: Answer) -> u32
     match answer {
         Answer::Done => 0,
         Answer::Refused(refusal) => refusal.number,
+    }
+}
+
+// The verdict's number: 0 for accepted, 255 for rejected, else the refusal's.
+pub fn verdict_number(verdict: Verdict) -> u32
+    ensures { λ r. ⌜ r ≡ verdictNumber verdict ⌝ }
+{
+    match verdict {
+        Verdict::Accepted => 0,
+        Verdict::Rejected => 255,
+        Verdict::Refused(refusal) => refusal.number,
     }
 }

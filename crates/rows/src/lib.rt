@@ -15,12 +15,12 @@ ghost use Rattle.rows.specs.Step.{Step, Shared};
 ghost use Rattle.rows.specs.Outcome.{LentKey, smallOf, entryOf, polynomials, values, maskedWitness};
 use field::Element;
 
-mod elements;
-mod products;
+pub mod elements;
+pub mod products;
 mod sums;
 
 // Fills s with zeros.
-fn clear(s: &mut [u16])
+pub fn clear(s: &mut [u16])
     ensures { λ _. ⌜ now (s .exit) ≡ replicate (length (now (s .entry))) 0 ⌝ }
 {
     let mut j: usize = 0;

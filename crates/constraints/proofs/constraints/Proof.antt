@@ -6,7 +6,7 @@ use Rattle.field.proofs.Fields.{bounded}
 use Rattle.constraints.specs.Slices.{maskedBytes, polynomialWords, witnessOf}
 use Rattle.constraints.specs.Truth.{Truth}
 use Rattle.constraints.specs.Entry.{constraintsRows, constraintsOutcome, system}
-use Rattle.constraints.proofs.Fine.{constraints-fine}
+use Rattle.constraints.proofs.Fine.{ConstraintsFine, constraints-fine}
 use Rattle.constraints.proofs.Truth.{truth}
 use Prim.Native.Nat.{ℕ, _-_}
 use mathlib.Core.Path.{sym, _∙_}
@@ -15,14 +15,27 @@ use borrow.Author.Needs.{needs}
 use Rattle.constraints.proofs.constraints.Statement.{statement}
 use Rattle.constraints.proofs.constraints.Tie as tie
 
+-- what holds of the slices where no refusal applies
+lent : (c : tie.After-enum-told) → let a = c .before .before .before .before .before .before .before .before .before .before .before .before .args in ConstraintsFine 1 (a .key) (a .h .now) (a .x .now) (a .positions .now) (a .u .now) (a .v .now) (a .t .now) (a .polynomials .now)
+lent c =
+    let a = c .before .before .before .before .before .before .before .before .before .before .before .before .args in
+    constraints-fine 1 (a .key) (a .h .now) (a .x .now) (a .positions .now) (a .u .now) (a .v .now) (a .t .now) (a .polynomials .now) (sym (c .before .before .constraints-refused .ensures) ∙ c .enum-told .given .1)
+
 constraints-refused-requires : tie.Need-constraints-refused-requires
 constraints-refused-requires c κs = search needs
 
 enum-told : tie.Need-enum-told
 enum-told c = search needs
 
-constraints-work-requires : tie.Need-constraints-work-requires
-constraints-work-requires c κs = sym (c .before .before .before .before .constraints-refused .ensures) ∙ c .before .before .enum-told .given .1
+write-masked-witness-requires : tie.Need-write-masked-witness-requires
+write-masked-witness-requires c κs =
+    let f = lent (c .before) in
+    ((f .is-sized, f .u-bits), (f .positions-length, f .u-length, f .t-length))
+
+write-polynomials-requires : tie.Need-write-polynomials-requires
+write-polynomials-requires c κs =
+    let f = lent (c .before .before .before .before .before) in
+    ((f .is-sized, f .is-key, f .v-words), (f .positions-length, f .v-length, f .p-length))
 
 enum-told-2 : tie.Need-enum-told-2
 enum-told-2 c = search needs
@@ -36,15 +49,14 @@ same-length-2 c = search needs
 returns : tie.Need-returns
 unfolding constraintsOutcome
 returns c =
-    let a = c .before .before .before .before .before .before .before .before .before .before .before .before .before .before .before .before .before .before .before .args in
-    let e = c .before .before .before .before .before .before .before .before .before .constraints-refused .ensures in
-    let done = c .before .before .before .before .before .before .before .enum-told .given .1 in
-    let w = c .before .before .before .before .constraints-work .ensures in
-    let f = constraints-fine 1 (a .key) (a .h .now) (a .x .now) (a .positions .now) (a .u .now) (a .v .now) (a .t .now) (a .polynomials .now) (sym e ∙ done) in
+    let a = c .before .before .before .before .before .before .before .before .before .before .before .before .before .before .before .before .before .before .before .before .args in
+    let t = c .before .before .before .before .before .before .write-masked-witness .ensures (a .h .now) (a .x .now) in
+    let p = c .before .before .write-polynomials .ensures in
+    let f = lent (c .before .before .before .before .before .before .before .before) in
     let b = bounded 1 in (
-      when-done (constraintsRows (levelAt 1) (a .key) (a .h .now) (a .x .now) (a .positions .now) (a .u .now) (a .v .now) (a .t .now) (a .polynomials .now)) (maskedBytes (system (levelAt 1) (a .key) (a .h .now) (a .x .now)) (witnessOf (a .key .n) (a .positions .now)) (a .u .now), polynomialWords (levelAt 1) (system (levelAt 1) (a .key) (a .h .now) (a .x .now)) (witnessOf (a .key .n) (a .positions .now)) (a .v .now)) (a .t .now, a .polynomials .now) e done (ap₂ (λ (t p : List ℕ). (t, p)) (w .0) (w .1)),
-      λ _. subst₂ (Truth (levelAt 1) (a .key .n) (a .key .m) (a .h .now) (a .x .now) (a .positions .now) (a .u .now) (a .v .now)) (sym (w .0)) (sym (w .1))
-          (truth (levelAt 1) (b .width) (b .coordinates) (a .key .n) (a .key .m) (a .h .now) (a .x .now) (omega (arith, b .most, f .is-sized .most)) (a .positions .now) (a .u .now) (a .v .now) (λ i l. f .positions-lt i)),
+      when-done (constraintsRows (levelAt 1) (a .key) (a .h .now) (a .x .now) (a .positions .now) (a .u .now) (a .v .now) (a .t .now) (a .polynomials .now)) (maskedBytes (system (levelAt 1) (a .key) (a .h .now) (a .x .now)) (witnessOf (a .key .n) (a .positions .now)) (a .u .now), polynomialWords (levelAt 1) (system (levelAt 1) (a .key) (a .h .now) (a .x .now)) (witnessOf (a .key .n) (a .positions .now)) (a .v .now)) (a .t .now, a .polynomials .now) (c .before .before .before .before .before .before .before .before .before .before .constraints-refused .ensures) (c .before .before .before .before .before .before .before .before .enum-told .given .1) (ap₂ (λ (t p : List ℕ). (t, p)) t p),
+      λ _. subst₂ (Truth (levelAt 1) (a .key .n) (a .key .m) (a .h .now) (a .x .now) (a .positions .now) (a .u .now) (a .v .now)) (sym t) (sym p)
+          (truth (levelAt 1) (b .width) (b .coordinates) (a .key .n) (a .key .m) (a .h .now) (a .x .now) (omega (arith, b .most, f .is-sized .most)) (a .positions .now) (λ i l. f .positions-lt i) (a .u .now) (a .v .now)),
     )
 
 same-length-3 : tie.Need-same-length-3
@@ -68,7 +80,8 @@ constraints-spec =
     (tie.spec
     constraints-refused-requires
     enum-told
-    constraints-work-requires
+    write-masked-witness-requires
+    write-polynomials-requires
     enum-told-2
     same-length
     same-length-2

@@ -1,7 +1,7 @@
-use mathlib.Core.List.{[], _∷_}
 use Rattle.lists.specs.Lent.{long}
-use Rattle.lists.proofs.Lent.{long-more, long-last}
+use Rattle.lists.proofs.Lent.{differences-long}
 use Rattle.key.specs.declared.Lengths.{Lengths}
+use Rattle.constraints.specs.Entry.{constraintsLent}
 use Prim.Native.Nat.{_-_}
 use mathlib.Core.Path.{ap, _∙_}
 use Rattle.constraints.proofs.constraints_lengths.Statement.{statement}
@@ -13,15 +13,8 @@ lengths-requires c κs = c .before .before .before .before .before .before .befo
 returns : tie.Need-returns
 returns c =
     let a = c .before .before .before .before .before .before .before .before .before .before .before .before .before .before .before .args in
-    let n = c .before .before .before .before .before .before .before .lengths .result in
-    (long-more (a .h .now) (n .matrix) _ ((a .x .now, n .vector) ∷ (a .positions .now, n .positions) ∷ (a .u .now, n .bits) ∷ (a .v .now, n .elements) ∷ (a .t .now, n .bits) ∷ (a .p .now, n .polynomials) ∷ [])
-    (long-more (a .x .now) (n .vector) _ ((a .positions .now, n .positions) ∷ (a .u .now, n .bits) ∷ (a .v .now, n .elements) ∷ (a .t .now, n .bits) ∷ (a .p .now, n .polynomials) ∷ [])
-    (long-more (a .positions .now) (n .positions) _ ((a .u .now, n .bits) ∷ (a .v .now, n .elements) ∷ (a .t .now, n .bits) ∷ (a .p .now, n .polynomials) ∷ [])
-    (long-more (a .u .now) (n .bits) _ ((a .v .now, n .elements) ∷ (a .t .now, n .bits) ∷ (a .p .now, n .polynomials) ∷ [])
-    (long-more (a .v .now) (n .elements) _ ((a .t .now, n .bits) ∷ (a .p .now, n .polynomials) ∷ [])
-    (long-more (a .t .now) (n .bits) _ ((a .p .now, n .polynomials) ∷ [])
-    (long-last (a .p .now) (n .polynomials))))))))
-    ∙ ap (λ (n : Lengths). long ((a .h .now, n .matrix) ∷ (a .x .now, n .vector) ∷ (a .positions .now, n .positions) ∷ (a .u .now, n .bits) ∷ (a .v .now, n .elements) ∷ (a .t .now, n .bits) ∷ (a .p .now, n .polynomials) ∷ [])) (c .before .before .before .before .before .before .before .lengths .ensures)
+    let n = c .before .before .before .before .before .before .before .lengths in
+    differences-long (constraintsLent (n .result) (a .h .now) (a .x .now) (a .positions .now) (a .u .now) (a .v .now) (a .t .now) (a .p .now)) ∙ ap (λ (n : Lengths). long (constraintsLent n (a .h .now) (a .x .now) (a .positions .now) (a .u .now) (a .v .now) (a .t .now) (a .p .now))) (n .ensures)
 
 pub constraints-lengths-spec : {M : Type 1} → statement M
 constraints-lengths-spec = tie.close (tie.spec lengths-requires returns)

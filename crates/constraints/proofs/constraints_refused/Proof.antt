@@ -1,24 +1,28 @@
-use mathlib.Core.Bool.{not}
-use mathlib.Core.List.{_∷_}
+use mathlib.Core.List.{[], _∷_}
 use Rattle.lists.specs.Lent.{long}
 use Rattle.refusal.specs.Answer.{firstOf}
-use Rattle.refusal.proofs.Answers.{pass, stop, after-done, after-refused, none}
+use Rattle.refusal.specs.declared.Answer.the-variants.{Done}
+use Rattle.refusal.proofs.Answers.{after-refused, none}
 use Rattle.field.specs.Level.{levelAt}
-use Rattle.field.proofs.Tested.{fine, above}
-use Rattle.key.specs.Key.{sizes}
-use Rattle.key.proofs.Sized.{sized}
-use Rattle.constraints.specs.Entry.{constraintsLent, constraintsValues, constraintsRows}
+use Rattle.field.proofs.Fields.{bounded}
+use Rattle.key.specs.Key.{degree, lengths, sizes, Sized, below, withins, checks}
+use Rattle.key.proofs.Sized.{sized, degree-lt}
+use Rattle.key.proofs.Fine.{withins-more, withins-last}
+use Rattle.key.proofs.Checked.{told}
+use Rattle.constraints.specs.Entry.{constraintsLent}
 use Prim.Native.Nat.{_-_}
-use mathlib.Core.Path.{_≡_, sym, _∙_}
+use mathlib.Core.Path.{_≡_, sym, ap, _∙_}
+use native.Mathlib.Omega.{arith}
 use borrow.Author.Needs.{needs}
 use Rattle.constraints.proofs.constraints_refused.Statement.{statement}
 use Rattle.constraints.proofs.constraints_refused.Tie as tie
 
--- the rows that are left after the sizes
-past : (c : tie.After-enum-told2) → let a = c .before .before .before .before .before .before .before .before .before .before .args in firstOf (constraintsRows (levelAt 1) (a .key) (a .h .now) (a .x .now) (a .positions .now) (a .u .now) (a .v .now) (a .t .now) (a .p .now)) ≡ firstOf ((not (long (constraintsLent (levelAt 1) (a .key) (a .h .now) (a .x .now) (a .positions .now) (a .u .now) (a .v .now) (a .t .now) (a .p .now))), 3) ∷ constraintsValues (levelAt 1) (a .key) (a .h .now) (a .x .now) (a .positions .now) (a .u .now) (a .v .now))
-past c =
-    let a = c .before .before .before .before .before .before .before .before .before .before .args in
-    after-done (sizes (levelAt 1) (a .key)) ((not (long (constraintsLent (levelAt 1) (a .key) (a .h .now) (a .x .now) (a .positions .now) (a .u .now) (a .v .now) (a .t .now) (a .p .now))), 3) ∷ constraintsValues (levelAt 1) (a .key) (a .h .now) (a .x .now) (a .positions .now) (a .u .now) (a .v .now)) (sym (c .before .before .sizes .ensures) ∙ c .enum-told2 .given .1)
+-- past the sizes
+passed : (c : tie.After-enum-told2) → firstOf (sizes (levelAt 1) (c .before .before .before .before .before .before .before .before .before .before .args .key)) ≡ Done
+passed c = sym (c .before .before .sizes .ensures) ∙ c .enum-told2 .given .1
+
+is-sized : (c : tie.After-enum-told2) → Sized (levelAt 1) (c .before .before .before .before .before .before .before .before .before .before .args .key)
+is-sized c = let k = c .before .before .before .before .before .before .before .before .before .before .args .key in sized (levelAt 1) k (none (sizes (levelAt 1) k) (passed c))
 
 sizes-requires : tie.Need-sizes-requires
 sizes-requires c κs = search needs
@@ -29,26 +33,52 @@ enum-told c = search needs
 returns : tie.Need-returns
 returns c =
     let a = c .before .before .before .before .before .before .before .before .before .before .args in
-    after-refused (sizes (levelAt 1) (a .key)) ((not (long (constraintsLent (levelAt 1) (a .key) (a .h .now) (a .x .now) (a .positions .now) (a .u .now) (a .v .now) (a .t .now) (a .p .now))), 3) ∷ constraintsValues (levelAt 1) (a .key) (a .h .now) (a .x .now) (a .positions .now) (a .u .now) (a .v .now)) (c .before .before .sizes .ensures) (c .enum-told .given .1)
+    after-refused (sizes (levelAt 1) (a .key))
+    (checks (long (constraintsLent (lengths (levelAt 1) (a .key)) (a .h .now) (a .x .now) (a .positions .now) (a .u .now) (a .v .now) (a .t .now) (a .p .now))) (withins (levelAt 1) (a .h .now ∷ a .x .now ∷ [])) (below 1 (a .u .now)) (withins (levelAt 1) (a .v .now ∷ [])) (below (degree (a .key .n)) (a .positions .now)))
+    (c .before .before .sizes .ensures) (c .enum-told .given .1)
 
 enum-told-2 : tie.Need-enum-told-2
 enum-told-2 c = search needs
 
 constraints-lengths-requires : tie.Need-constraints-lengths-requires
-constraints-lengths-requires c κs = sized (levelAt 1) (c .before .before .before .before .before .before .before .before .before .before .args .key) (none (sizes (levelAt 1) (c .before .before .before .before .before .before .before .before .before .before .args .key)) (sym (c .before .before .sizes .ensures) ∙ c .enum-told2 .given .1))
+constraints-lengths-requires c κs = is-sized c
+
+excess-requires : tie.Need-excess-requires
+excess-requires c κs = search needs
+
+excess-requires-2 : tie.Need-excess-requires-2
+excess-requires-2 c κs = search needs
+
+degree-requires : tie.Need-degree-requires
+degree-requires c κs = omega (arith, is-sized (c .before .before .before) .two)
+
+over-requires : tie.Need-over-requires
+over-requires c κs =
+    let s = is-sized (c .before .before .before .before) in
+    let b = bounded 1 in
+    omega (arith, c .degree .ensures, degree-lt (c .before .before .before .before .before .before .before .before .before .before .before .before .before .before .args .key .n) 8 (omega (arith, s .two)) (omega (arith, s .most, b .most)) (omega (arith, s .most, b .most)))
+
+over-requires-2 : tie.Need-over-requires-2
+over-requires-2 c κs = search needs
+
+excess-requires-3 : tie.Need-excess-requires-3
+excess-requires-3 c κs = search needs
+
+checks-requires : tie.Need-checks-requires
+checks-requires c κs = search needs
 
 returns-2 : tie.Need-returns-2
 returns-2 c =
-    let a = c .before .before .before .before .before .before .before .before .before .before .before .before .args in
-    sym (past (c .before .before) ∙ stop 3 (constraintsValues (levelAt 1) (a .key) (a .h .now) (a .x .now) (a .positions .now) (a .u .now) (a .v .now)) (above (c .before .constraints-lengths .ensures) (c .if1 .taken)))
-
-constraints-values-requires : tie.Need-constraints-values-requires
-constraints-values-requires c κs = sized (levelAt 1) (c .before .before .before .before .before .before .before .before .before .before .before .before .args .key) (none (sizes (levelAt 1) (c .before .before .before .before .before .before .before .before .before .before .before .before .args .key)) (sym (c .before .before .before .before .sizes .ensures) ∙ c .before .before .enum-told2 .given .1))
-
-returns-3 : tie.Need-returns-3
-returns-3 c =
-    let a = c .before .before .before .before .before .before .before .before .before .before .before .before .before .args in
-    c .constraints-values .ensures ∙ sym (past (c .before .before .before) ∙ pass 3 (constraintsValues (levelAt 1) (a .key) (a .h .now) (a .x .now) (a .positions .now) (a .u .now) (a .v .now)) (fine (c .before .before .constraints-lengths .ensures) (c .before .if1 .left)))
+    let a = c .before .before .before .before .before .before .before .before .before .before .before .before .before .before .before .before .before .before .args in
+    let e = c .before .before .before .before .before .before in
+    told (levelAt 1) (a .key) (long (constraintsLent (lengths (levelAt 1) (a .key)) (a .h .now) (a .x .now) (a .positions .now) (a .u .now) (a .v .now) (a .t .now) (a .p .now))) (withins (levelAt 1) (a .h .now ∷ a .x .now ∷ [])) (below 1 (a .u .now)) (withins (levelAt 1) (a .v .now ∷ [])) (below (degree (a .key .n)) (a .positions .now))
+    (passed (e .before .before))
+    (c .checks .ensures)
+    (e .before .constraints-lengths .ensures)
+    (withins-more (levelAt 1) (a .h .now) (a .x .now ∷ []) (e .excess .result) (c .before .before .before .before .before .excess2 .result) (e .excess .ensures) (withins-last (levelAt 1) (a .x .now) (c .before .before .before .before .before .excess2 .result) (c .before .before .before .before .before .excess2 .ensures)))
+    (c .before .before .over2 .ensures)
+    (withins-last (levelAt 1) (a .v .now) (c .before .excess3 .result) (c .before .excess3 .ensures))
+    (c .before .before .before .over .ensures ∙ ap (λ d. below d (a .positions .now)) (c .before .before .before .before .degree .ensures))
 
 pub constraints-refused-spec : {M : Type 1} → statement M
 constraints-refused-spec =
@@ -59,6 +89,11 @@ constraints-refused-spec =
     returns
     enum-told-2
     constraints-lengths-requires
-    returns-2
-    constraints-values-requires
-    returns-3)
+    excess-requires
+    excess-requires-2
+    degree-requires
+    over-requires
+    over-requires-2
+    excess-requires-3
+    checks-requires
+    returns-2)

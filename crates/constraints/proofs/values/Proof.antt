@@ -1,6 +1,7 @@
 use Rattle.refusal.proofs.Answers.{when-done, when-refused}
 use Rattle.field.specs.Level.{levelAt}
 use Rattle.constraints.specs.Slices.{valueWords}
+use Rattle.constraints.proofs.Fine.{values-fine}
 use Rattle.constraints.specs.Entry.{valuesRows, valuesOutcome, system}
 use Prim.Native.Nat.{_-_}
 use mathlib.Core.Path.{sym, _∙_}
@@ -14,8 +15,11 @@ values-refused-requires c κs = search needs
 enum-told : tie.Need-enum-told
 enum-told c = search needs
 
-values-work-requires : tie.Need-values-work-requires
-values-work-requires c κs = sym (c .before .before .before .values-refused .ensures) ∙ c .before .enum-told .given .1
+write-values-requires : tie.Need-write-values-requires
+write-values-requires c κs =
+    let a = c .before .before .before .before .before .before .before .before .before .before .before .args in
+    let f = values-fine 1 (a .key) (a .h .now) (a .x .now) (a .t .now) (a .q .now) (a .delta .now) (a .values .now) (sym (c .before .before .before .values-refused .ensures) ∙ c .before .enum-told .given .1) in
+    ((f .is-sized, f .is-key, f .t-bits, f .q-words, f .Δ-words), (f .t-length, f .q-length, f .Δ-length, f .p-length))
 
 enum-told-2 : tie.Need-enum-told-2
 enum-told-2 c = search needs
@@ -27,7 +31,7 @@ returns : tie.Need-returns
 unfolding valuesOutcome
 returns c =
     let a = c .before .before .before .before .before .before .before .before .before .before .before .before .before .before .args in
-    when-done (valuesRows (levelAt 1) (a .key) (a .h .now) (a .x .now) (a .t .now) (a .q .now) (a .delta .now) (a .values .now)) (valueWords (levelAt 1) (system (levelAt 1) (a .key) (a .h .now) (a .x .now)) (a .t .now) (a .q .now) (a .delta .now)) (a .values .now) (c .before .before .before .before .before .before .values-refused .ensures) (c .before .before .before .before .enum-told .given .1) (c .before .before .values-work .ensures)
+    when-done (valuesRows (levelAt 1) (a .key) (a .h .now) (a .x .now) (a .t .now) (a .q .now) (a .delta .now) (a .values .now)) (valueWords (levelAt 1) (system (levelAt 1) (a .key) (a .h .now) (a .x .now)) (a .t .now) (a .q .now) (a .delta .now)) (a .values .now) (c .before .before .before .before .before .before .values-refused .ensures) (c .before .before .before .before .enum-told .given .1) (c .before .before .write-values .ensures)
 
 same-length-2 : tie.Need-same-length-2
 same-length-2 c = search needs
@@ -44,7 +48,7 @@ values-spec =
     (tie.spec
     values-refused-requires
     enum-told
-    values-work-requires
+    write-values-requires
     enum-told-2
     same-length
     returns

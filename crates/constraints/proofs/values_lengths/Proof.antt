@@ -1,7 +1,7 @@
-use mathlib.Core.List.{[], _∷_}
 use Rattle.lists.specs.Lent.{long}
-use Rattle.lists.proofs.Lent.{long-more, long-last}
+use Rattle.lists.proofs.Lent.{differences-long}
 use Rattle.key.specs.declared.Lengths.{Lengths}
+use Rattle.constraints.specs.Entry.{valuesLent}
 use Prim.Native.Nat.{_-_}
 use mathlib.Core.Path.{ap, _∙_}
 use Rattle.constraints.proofs.values_lengths.Statement.{statement}
@@ -13,14 +13,8 @@ lengths-requires c κs = c .before .before .before .before .before .before .pre
 returns : tie.Need-returns
 returns c =
     let a = c .before .before .before .before .before .before .before .before .before .before .before .before .before .args in
-    let n = c .before .before .before .before .before .before .lengths .result in
-    (long-more (a .h .now) (n .matrix) _ ((a .x .now, n .vector) ∷ (a .t .now, n .bits) ∷ (a .q .now, n .elements) ∷ (a .delta .now, n .one) ∷ (a .p .now, n .values) ∷ [])
-    (long-more (a .x .now) (n .vector) _ ((a .t .now, n .bits) ∷ (a .q .now, n .elements) ∷ (a .delta .now, n .one) ∷ (a .p .now, n .values) ∷ [])
-    (long-more (a .t .now) (n .bits) _ ((a .q .now, n .elements) ∷ (a .delta .now, n .one) ∷ (a .p .now, n .values) ∷ [])
-    (long-more (a .q .now) (n .elements) _ ((a .delta .now, n .one) ∷ (a .p .now, n .values) ∷ [])
-    (long-more (a .delta .now) (n .one) _ ((a .p .now, n .values) ∷ [])
-    (long-last (a .p .now) (n .values)))))))
-    ∙ ap (λ (n : Lengths). long ((a .h .now, n .matrix) ∷ (a .x .now, n .vector) ∷ (a .t .now, n .bits) ∷ (a .q .now, n .elements) ∷ (a .delta .now, n .one) ∷ (a .p .now, n .values) ∷ [])) (c .before .before .before .before .before .before .lengths .ensures)
+    let n = c .before .before .before .before .before .before .lengths in
+    differences-long (valuesLent (n .result) (a .h .now) (a .x .now) (a .t .now) (a .q .now) (a .delta .now) (a .p .now)) ∙ ap (λ (n : Lengths). long (valuesLent n (a .h .now) (a .x .now) (a .t .now) (a .q .now) (a .delta .now) (a .p .now))) (n .ensures)
 
 pub values-lengths-spec : {M : Type 1} → statement M
 values-lengths-spec = tie.close (tie.spec lengths-requires returns)

@@ -1,24 +1,27 @@
-use mathlib.Core.Bool.{not}
-use mathlib.Core.List.{_∷_}
+use mathlib.Core.Bool.{true}
+use mathlib.Core.List.{[], _∷_}
 use Rattle.lists.specs.Lent.{long}
 use Rattle.refusal.specs.Answer.{firstOf}
-use Rattle.refusal.proofs.Answers.{pass, stop, after-done, after-refused, none}
+use Rattle.refusal.specs.declared.Answer.the-variants.{Done}
+use Rattle.refusal.proofs.Answers.{after-refused, none}
 use Rattle.field.specs.Level.{levelAt}
-use Rattle.field.proofs.Tested.{fine, above}
-use Rattle.key.specs.Key.{sizes}
+use Rattle.key.specs.Key.{lengths, sizes, Sized, below, withins, checks}
 use Rattle.key.proofs.Sized.{sized}
-use Rattle.constraints.specs.Entry.{valuesLent, valuesValues, valuesRows}
+use Rattle.key.proofs.Fine.{withins-more, withins-last}
+use Rattle.key.proofs.Checked.{told}
+use Rattle.constraints.specs.Entry.{valuesLent}
 use Prim.Native.Nat.{_-_}
-use mathlib.Core.Path.{_≡_, sym, _∙_}
+use mathlib.Core.Path.{_≡_, refl, sym, _∙_}
 use borrow.Author.Needs.{needs}
 use Rattle.constraints.proofs.values_refused.Statement.{statement}
 use Rattle.constraints.proofs.values_refused.Tie as tie
 
--- the rows that are left after the sizes
-past : (c : tie.After-enum-told2) → let a = c .before .before .before .before .before .before .before .before .before .args in firstOf (valuesRows (levelAt 1) (a .key) (a .h .now) (a .x .now) (a .t .now) (a .q .now) (a .delta .now) (a .p .now)) ≡ firstOf ((not (long (valuesLent (levelAt 1) (a .key) (a .h .now) (a .x .now) (a .t .now) (a .q .now) (a .delta .now) (a .p .now))), 3) ∷ valuesValues (levelAt 1) (a .h .now) (a .x .now) (a .t .now) (a .q .now) (a .delta .now))
-past c =
-    let a = c .before .before .before .before .before .before .before .before .before .args in
-    after-done (sizes (levelAt 1) (a .key)) ((not (long (valuesLent (levelAt 1) (a .key) (a .h .now) (a .x .now) (a .t .now) (a .q .now) (a .delta .now) (a .p .now))), 3) ∷ valuesValues (levelAt 1) (a .h .now) (a .x .now) (a .t .now) (a .q .now) (a .delta .now)) (sym (c .before .before .sizes .ensures) ∙ c .enum-told2 .given .1)
+-- past the sizes
+passed : (c : tie.After-enum-told2) → firstOf (sizes (levelAt 1) (c .before .before .before .before .before .before .before .before .before .args .key)) ≡ Done
+passed c = sym (c .before .before .sizes .ensures) ∙ c .enum-told2 .given .1
+
+is-sized : (c : tie.After-enum-told2) → Sized (levelAt 1) (c .before .before .before .before .before .before .before .before .before .args .key)
+is-sized c = let k = c .before .before .before .before .before .before .before .before .before .args .key in sized (levelAt 1) k (none (sizes (levelAt 1) k) (passed c))
 
 sizes-requires : tie.Need-sizes-requires
 sizes-requires c κs = search needs
@@ -29,26 +32,40 @@ enum-told c = search needs
 returns : tie.Need-returns
 returns c =
     let a = c .before .before .before .before .before .before .before .before .before .args in
-    after-refused (sizes (levelAt 1) (a .key)) ((not (long (valuesLent (levelAt 1) (a .key) (a .h .now) (a .x .now) (a .t .now) (a .q .now) (a .delta .now) (a .p .now))), 3) ∷ valuesValues (levelAt 1) (a .h .now) (a .x .now) (a .t .now) (a .q .now) (a .delta .now)) (c .before .before .sizes .ensures) (c .enum-told .given .1)
+    after-refused (sizes (levelAt 1) (a .key)) (checks (long (valuesLent (lengths (levelAt 1) (a .key)) (a .h .now) (a .x .now) (a .t .now) (a .q .now) (a .delta .now) (a .p .now))) (withins (levelAt 1) (a .h .now ∷ a .x .now ∷ [])) (below 1 (a .t .now)) (withins (levelAt 1) (a .q .now ∷ a .delta .now ∷ [])) true) (c .before .before .sizes .ensures) (c .enum-told .given .1)
 
 enum-told-2 : tie.Need-enum-told-2
 enum-told-2 c = search needs
 
 values-lengths-requires : tie.Need-values-lengths-requires
-values-lengths-requires c κs = sized (levelAt 1) (c .before .before .before .before .before .before .before .before .before .args .key) (none (sizes (levelAt 1) (c .before .before .before .before .before .before .before .before .before .args .key)) (sym (c .before .before .sizes .ensures) ∙ c .enum-told2 .given .1))
+values-lengths-requires c κs = is-sized c
+
+excess-requires : tie.Need-excess-requires
+excess-requires c κs = search needs
+
+excess-requires-2 : tie.Need-excess-requires-2
+excess-requires-2 c κs = search needs
+
+excess-requires-3 : tie.Need-excess-requires-3
+excess-requires-3 c κs = search needs
+
+excess-requires-4 : tie.Need-excess-requires-4
+excess-requires-4 c κs = search needs
+
+over-requires : tie.Need-over-requires
+over-requires c κs = search needs
+
+checks-requires : tie.Need-checks-requires
+checks-requires c κs = search needs
 
 returns-2 : tie.Need-returns-2
 returns-2 c =
-    let a = c .before .before .before .before .before .before .before .before .before .before .before .args in
-    sym (past (c .before .before) ∙ stop 3 (valuesValues (levelAt 1) (a .h .now) (a .x .now) (a .t .now) (a .q .now) (a .delta .now)) (above (c .before .values-lengths .ensures) (c .if1 .taken)))
-
-values-values-requires : tie.Need-values-values-requires
-values-values-requires c κs = search needs
-
-returns-3 : tie.Need-returns-3
-returns-3 c =
-    let a = c .before .before .before .before .before .before .before .before .before .before .before .before .args in
-    c .values-values .ensures ∙ sym (past (c .before .before .before) ∙ pass 3 (valuesValues (levelAt 1) (a .h .now) (a .x .now) (a .t .now) (a .q .now) (a .delta .now)) (fine (c .before .before .values-lengths .ensures) (c .before .if1 .left)))
+    let a = c .before .before .before .before .before .before .before .before .before .before .before .before .before .before .before .before .args in
+    told (levelAt 1) (a .key) (long (valuesLent (lengths (levelAt 1) (a .key)) (a .h .now) (a .x .now) (a .t .now) (a .q .now) (a .delta .now) (a .p .now))) (withins (levelAt 1) (a .h .now ∷ a .x .now ∷ [])) (below 1 (a .t .now)) (withins (levelAt 1) (a .q .now ∷ a .delta .now ∷ [])) true (passed (c .before .before .before .before .before .before .before)) (c .checks .ensures) (c .before .before .before .before .before .before .values-lengths .ensures)
+    (withins-more (levelAt 1) (a .h .now) (a .x .now ∷ []) (c .before .before .before .before .before .excess .result) (c .before .before .before .before .excess2 .result) (c .before .before .before .before .before .excess .ensures) (withins-last (levelAt 1) (a .x .now) (c .before .before .before .before .excess2 .result) (c .before .before .before .before .excess2 .ensures)))
+    (c .before .over .ensures)
+    (withins-more (levelAt 1) (a .q .now) (a .delta .now ∷ []) (c .before .before .before .excess3 .result) (c .before .before .excess4 .result) (c .before .before .before .excess3 .ensures) (withins-last (levelAt 1) (a .delta .now) (c .before .before .excess4 .result) (c .before .before .excess4 .ensures)))
+    refl
 
 pub values-refused-spec : {M : Type 1} → statement M
 values-refused-spec =
@@ -59,6 +76,10 @@ values-refused-spec =
     returns
     enum-told-2
     values-lengths-requires
-    returns-2
-    values-values-requires
-    returns-3)
+    excess-requires
+    excess-requires-2
+    excess-requires-3
+    excess-requires-4
+    over-requires
+    checks-requires
+    returns-2)

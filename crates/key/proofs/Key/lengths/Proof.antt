@@ -3,7 +3,7 @@ use native.Mathlib.Nat.{mul-le-mul}
 use Rattle.field.specs.declared.Level.{Level}
 use Rattle.field.proofs.Fields.{bounded}
 use Rattle.key.specs.Key.{degree}
-use Rattle.key.proofs.Sized.{degree-lt}
+use Rattle.key.proofs.Sized.{degree-lt, degree-some}
 use Prim.Native.Nat.{ℕ, _+_, _-_, _*_, _≤_}
 use mathlib.Core.Path.{sym, ap}
 use native.Mathlib.Omega.{arith}
@@ -15,6 +15,7 @@ use Rattle.key.proofs.Key.lengths.Tie as tie
 record Known (n m d w : ℕ) : Type 0 where
   n-le : n ≤ 128
   m-le : m ≤ 128
+  d-some : 1 ≤ d
   d-le : d ≤ 8
   w-le : w ≤ 32
 
@@ -25,11 +26,14 @@ record Small (n m d w : ℕ) : Type 0 where
   coefficients : (n + m) * (d + 1) ≤ 256 * 9
   polynomials : w * ((n + m) * (d + 1)) ≤ 32 * (256 * 9)
   values : w * (n + m) ≤ 32 * 256
+  masks : w * (d - 1) ≤ 32 * 8
+  proof : w * d ≤ 32 * 8
 
 small : {n m d w : ℕ} → Known n m d w → Small n m d w
 small {n} {m} {d} k =
     let s : n + m ≤ 256 = omega (arith, k .n-le, k .m-le) in
     let e : d + 1 ≤ 9 = omega (arith, k .d-le) in
+    let f : d - 1 ≤ 8 = omega (arith, k .d-le) in
     let c : (n + m) * (d + 1) ≤ 256 * 9 = mul-le-mul s e in
     record {
       matrix = mul-le-mul (k .m-le) (k .n-le);
@@ -38,6 +42,8 @@ small {n} {m} {d} k =
       coefficients = c;
       polynomials = mul-le-mul (k .w-le) c;
       values = mul-le-mul (k .w-le) s;
+      masks = mul-le-mul (k .w-le) f;
+      proof = mul-le-mul (k .w-le) (k .d-le);
     }
 
 known : (c : tie.After-of) → let k = c .before .before .args .self in Known (k .n) (k .m) (c .before .degree .result) (c .of .result .coordinates)
@@ -48,6 +54,7 @@ known c =
     record {
       n-le = omega (arith, b .most, s .most);
       m-le = omega (arith, b .most, s .most, s .fewer);
+      d-some = omega (arith, c .before .degree .ensures, degree-some (a .self .n) (s .two) (omega (arith, b .most, s .most)));
       d-le = omega (arith, c .before .degree .ensures, degree-lt (a .self .n) 8 (omega (arith, s .two)) (omega (arith, b .most, s .most)) (omega (arith, b .most, s .most)));
       w-le = subst (λ (l : Level). l .coordinates ≤ 32) (sym (c .of .ensures)) (omega (arith, b .narrow));
     }
@@ -82,10 +89,19 @@ mul-t14 c = record { fits = omega (arith, small (known c) .polynomials) }
 mul-t15 : tie.Need-mul-t15
 mul-t15 c = record { fits = omega (arith, small (known c) .values) }
 
+sub-t16 : tie.Need-sub-t16
+sub-t16 c = known c .d-some
+
+mul-t17 : tie.Need-mul-t17
+mul-t17 c = record { fits = omega (arith, small (known c) .masks) }
+
+mul-t18 : tie.Need-mul-t18
+mul-t18 c = record { fits = omega (arith, small (known c) .proof) }
+
 returns : tie.Need-returns
 returns c =
     let k = c .before .before .args .self in
-    ap₂ (λ (d w : ℕ). record { matrix = k .m * k .n; vector = k .n; positions = k .n; bits = k .n * d; elements = w * (k .n * d); polynomials = w * ((k .n + k .m) * (d + 1)); values = w * (k .n + k .m); one = w }) (c .before .degree .ensures) (ap (λ (l : Level). l .coordinates) (c .of .ensures))
+    ap₂ (λ (d w : ℕ). record { matrix = k .m * k .n; vector = k .n; positions = k .n; bits = k .n * d; elements = w * (k .n * d); polynomials = w * ((k .n + k .m) * (d + 1)); values = w * (k .n + k .m); masks = w * (d - 1); proof = w * d; one = w }) (c .before .degree .ensures) (ap (λ (l : Level). l .coordinates) (c .of .ensures))
 
 pub lengths-spec : {M : Type 1} → statement M
 lengths-spec =
@@ -101,4 +117,7 @@ lengths-spec =
     mul-t13
     mul-t14
     mul-t15
+    sub-t16
+    mul-t17
+    mul-t18
     returns)

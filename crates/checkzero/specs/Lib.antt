@@ -1,0 +1,3 @@
+pub mod CheckZero
+pub mod Slices
+pub mod Steps

@@ -1,0 +1,23 @@
+-- What prove has written is accepted, from what prove and verify promise.
+use mathlib.Core.Path.{_≡_, _∙_, ap}
+use mathlib.Core.List.{List}
+use Prim.Native.Nat.{ℕ}
+use Rattle.refusal.specs.declared.Answer.{Answer}
+use Rattle.refusal.specs.declared.Answer.the-variants.{Done}
+use Rattle.refusal.specs.declared.Verdict.{Verdict}
+use Rattle.refusal.specs.declared.Verdict.the-variants.{Accepted}
+use Rattle.field.specs.Level.{levelAt}
+use Rattle.key.specs.declared.Key.{Key}
+use Rattle.prover.specs.Entry.{proveOutcome}
+use Rattle.prover.specs.Solved.{Solved}
+use Rattle.verifier.specs.Entry.{verifyOutcome}
+use Rattle.verifier.specs.Complete.{HonestVerifier}
+use Rattle.verifier.proofs.Completeness.{completeness}
+
+pub accepted : (number : ℕ) (key : Key) (h x positions u v r s α t a q Δ masks : List ℕ) {answer : Answer} {t′ a′ : List ℕ} {verdict : Verdict}
+    → (answer, (t′, a′)) ≡ proveOutcome (levelAt number) key h x positions u v r s α t a → Solved (levelAt number) key h x positions u v r s α t a answer → verdict ≡ verifyOutcome (levelAt number) key h x t′ q Δ masks α a′
+    → answer ≡ Done → HonestVerifier (levelAt number) key h x u v r s q Δ masks → verdict ≡ Accepted
+accepted number key h x positions u v r s α t a q Δ masks e p f done honest =
+    let known = p .done .0 done in
+    f ∙ ap (λ (o : Answer × (List ℕ × List ℕ)). verifyOutcome (levelAt number) key h x (o .1 .0) q Δ masks α (o .1 .1)) e
+    ∙ completeness number key h x positions u v r s α t a q Δ masks (known .0) (known .1) honest .accepted

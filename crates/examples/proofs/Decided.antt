@@ -1,0 +1,56 @@
+-- What prove answers and leaves for a key in bare numbers; for n = 3 and positions 0 1 3, it answers 8.
+use mathlib.Core.Path.{_≡_, refl}
+use mathlib.Core.List.{List, [], _∷_, _++_}
+use Prim.Native.Nat.{ℕ}
+use native.Mathlib.Omega.{arith}
+use lib.Count.{leadingZeros}
+use lib.ListN.{replicate}
+use Rattle.lists.specs.Words.{all}
+use Rattle.refusal.specs.Answer.{firstOf, refusal}
+use Rattle.refusal.specs.declared.Answer.the-variants.{Done}
+use Rattle.refusal.proofs.Answers.{result-of}
+use Rattle.field.specs.Level.{first, levelAt}
+use Rattle.field.specs.Word.{within}
+use Rattle.key.specs.Key.{degree, lengths, below}
+use Rattle.constraints.specs.Order.{count}
+use Rattle.prover.specs.Entry.{proveRows, topsRow, proveResult, proveOutcome}
+use Rattle.prover.specs.Solved.{SolvesKey}
+use Rattle.prover.proofs.Solved.{solved}
+use Rattle.examples.specs.Starred.{bares, Numbers, sizes, proveOf, three}
+
+module _ (key : Numbers) where
+  -- t and a, as they are lent
+  abbrev pub t₀ : List ℕ
+  t₀ = replicate (lengths first (sizes key) .bits) 0
+
+  abbrev pub a₀ : List ℕ
+  a₀ = replicate (lengths first (sizes key) .proof) 0
+
+module _ (key : Numbers) (positions : List ℕ) where
+  open Numbers key using (H, x, v, u, r, s, α)
+
+  -- none of refusals 1 to 7 applies
+  abbrev pub Passes : Type 0
+  Passes = firstOf (proveRows first (sizes key) H x positions u (bares v) (bares r) (bares s) (bares α) (t₀ key) (a₀ key)) ≡ Done
+
+  abbrev Solving : Type 0
+  Solving = SolvesKey first (sizes key) H x positions
+
+  answers-8 : Passes → (Solving → ⊥) → proveOf key positions .0 ≡ refusal 8
+  unfolding proveOf proveOutcome levelAt
+  answers-8 e p = solved 1 (sizes key) H x positions u (bares v) (bares r) (bares s) (bares α) (t₀ key) (a₀ key) refl .eight .1 (e, p)
+
+  pub left : proveOf key positions .0 ≡ Done → proveOf key positions .1 ≡ proveResult first (sizes key) H x positions u (bares v) (bares r) (bares s) (bares α)
+  unfolding proveOf proveOutcome
+  left e = result-of (proveRows first (sizes key) H x positions u (bares v) (bares r) (bares s) (bares α) (t₀ key) (a₀ key) ++ topsRow first (sizes key) H x positions (bares v))
+      (proveResult first (sizes key) H x positions u (bares v) (bares r) (bares s) (bares α)) (t₀ key, a₀ key) refl e
+
+-- none of the positions 0 1 3 is 2
+pub three-8 : proveOf three (0 ∷ 1 ∷ 3 ∷ []) .0 ≡ refusal 8
+three-8 = answers-8 three (0 ∷ 1 ∷ 3 ∷ []) passes unsolved
+  where
+    passes : Passes three (0 ∷ 1 ∷ 3 ∷ [])
+    passes = unfold bares degree leadingZeros below within all in refl
+
+    unsolved : Solving three (0 ∷ 1 ∷ 3 ∷ []) → ⊥
+    unsolved p = let z : _≡_ {A = ℕ} 0 1 = unfold count in p .0 2 (omega arith) in omega arith

@@ -1,0 +1,86 @@
+-- What holds of the slices lent to prove where none of refusals 1 to 7 applies.
+use mathlib.Core.Path.{_≡_}
+use mathlib.Core.List.{List, [], _∷_}
+use Prim.Native.Nat.{ℕ, _+_, _*_, _^_, _≤_, _<_}
+use native.Mathlib.Nat.{mul-le-mul}
+use native.Mathlib.Omega.{arith}
+use lib.ListN.{length, getD}
+use Rattle.lists.specs.Lent.{long}
+use Rattle.lists.proofs.Lent.{each-long}
+use Rattle.refusal.specs.Answer.{firstOf}
+use Rattle.refusal.specs.declared.Answer.the-variants.{Done}
+use Rattle.field.specs.declared.Level.{Level}
+use Rattle.field.specs.Level.{levelAt}
+use Rattle.field.proofs.Fields.{Bounded, bounded}
+use Rattle.rows.specs.Elements.{Words, Bits}
+use Rattle.rows.specs.Outcome.{LentKey}
+use Rattle.key.specs.declared.Key.{Key}
+use Rattle.key.specs.declared.Lengths.{Lengths}
+use Rattle.key.specs.Key.{degree, lengths, Sized, below, withins}
+use Rattle.key.proofs.Sized.{degree-lt}
+use Rattle.key.proofs.Fine.{below-lt, each-within}
+use Rattle.key.proofs.Checked.{checked}
+use Rattle.constraints.proofs.Fine.{words-lt, lent-key}
+use Rattle.prover.specs.Entry.{proveLent, proveRows}
+
+module _ (number : ℕ) (key : Key) where
+  abbrev l : Level
+  l = levelAt number
+
+  abbrev len : Lengths
+  len = lengths l key
+
+  pub record ProveFine (h x positions u v r s α t a : List ℕ) : Type 0 where
+    pub is-sized : Sized l key
+    pub is-key : LentKey l (key .n) (key .m) h x
+    pub positions-length : length positions ≡ len .positions
+    pub u-length : length u ≡ len .bits
+    pub v-length : length v ≡ len .elements
+    pub r-length : length r ≡ len .masks
+    pub s-length : length s ≡ len .masks
+    pub α-length : length α ≡ len .values
+    pub t-length : length t ≡ len .bits
+    pub a-length : length a ≡ len .proof
+    pub u-bits : Bits u
+    pub v-words : Words l v
+    pub r-words : Words l r
+    pub s-words : Words l s
+    pub α-words : Words l α
+    pub positions-lt : (i : ℕ) → getD positions i 0 < 2 ^ degree (key .n)
+
+  pub prove-fine : (h x positions u v r s α t a : List ℕ) → firstOf (proveRows l key h x positions u v r s α t a) ≡ Done → ProveFine h x positions u v r s α t a
+  prove-fine h x positions u v r s α t a e =
+      let c = checked l key (long (proveLent len h x positions u v r s α t a)) (withins l (h ∷ x ∷ [])) (below 1 u) (withins l (v ∷ r ∷ s ∷ α ∷ [])) (below (degree (key .n)) positions) e in
+      let b = each-long (proveLent len h x positions u v r s α t a) (c .slices-fine) in
+      let f = each-within l (v ∷ r ∷ s ∷ α ∷ []) (c .coordinates-fine) in
+      record {
+        is-sized = c .is-sized;
+        is-key = lent-key number key h x (b .0) (b .1 .0) (c .elements-fine);
+        positions-length = b .1 .1 .0;
+        u-length = b .1 .1 .1 .0;
+        v-length = b .1 .1 .1 .1 .0;
+        r-length = b .1 .1 .1 .1 .1 .0;
+        s-length = b .1 .1 .1 .1 .1 .1 .0;
+        α-length = b .1 .1 .1 .1 .1 .1 .1 .0;
+        t-length = b .1 .1 .1 .1 .1 .1 .1 .1 .0;
+        a-length = b .1 .1 .1 .1 .1 .1 .1 .1 .1 .0;
+        u-bits = below-lt 1 u (c .bits-fine);
+        v-words = words-lt number key v (f .0);
+        r-words = words-lt number key r (f .1 .0);
+        s-words = words-lt number key s (f .1 .1 .0);
+        α-words = words-lt number key α (f .1 .1 .1 .0);
+        positions-lt = below-lt (degree (key .n)) positions (c .positions-fine);
+      }
+
+  -- the room for the polynomials
+  pub polynomials-le : Sized l key → lengths l key .polynomials ≤ 10668
+  polynomials-le s = mul-le-mul (b .narrow) (mul-le-mul all up)
+    where
+      b : Bounded (levelAt number)
+      b = bounded number
+
+      all : key .n + key .m ≤ 127
+      all = omega (arith, s .most, s .fewer, b .most)
+
+      up : degree (key .n) + 1 ≤ 7
+      up = omega (arith, degree-lt (key .n) 7 (omega (arith, s .two)) (omega (arith, s .most, b .most)) (omega (arith, s .most, b .most)))

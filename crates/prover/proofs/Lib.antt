@@ -1,0 +1,3 @@
+pub mod Fine
+pub mod Weighed
+pub mod Solved

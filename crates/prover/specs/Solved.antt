@@ -1,0 +1,22 @@
+-- What prove's answer says of the positions.
+use mathlib.Core.Path.{_≡_}
+use mathlib.Core.Logic.{_↔_}
+use mathlib.Core.List.{List}
+use Prim.Native.Nat.{ℕ}
+use Rattle.refusal.specs.Answer.{refusal, firstOf}
+use Rattle.refusal.specs.declared.Answer.{Answer}
+use Rattle.refusal.specs.declared.Answer.the-variants.{Done}
+use Rattle.field.specs.declared.Level.{Level}
+use Rattle.key.specs.declared.Key.{Key}
+use Rattle.constraints.specs.Order.{Order, Solves}
+use Rattle.constraints.specs.Slices.{keyOf, positionAt}
+use Rattle.prover.specs.Entry.{proveRows}
+
+-- the positions solve the key: they "are the numbers 0 to n - 1, each once, and H times the vector x in that order is zero"
+abbrev pub SolvesKey : (l : Level) (key : Key) (h x positions : List ℕ) → Type 0
+SolvesKey l key h x positions = Order (key .n) (positionAt positions) × Solves (keyOf l (key .n) (key .m) h x) (positionAt positions)
+
+-- past refusals 1 to 7 the answer is Done exactly when they do, and 8 exactly when they do not
+pub record Solved (l : Level) (key : Key) (h x positions u v r s α t a : List ℕ) (answer : Answer) : Type 0 where
+  pub done : (answer ≡ Done) ↔ ((firstOf (proveRows l key h x positions u v r s α t a) ≡ Done) × SolvesKey l key h x positions)
+  pub eight : (answer ≡ refusal 8) ↔ ((firstOf (proveRows l key h x positions u v r s α t a) ≡ Done) × (SolvesKey l key h x positions → ⊥))

@@ -1,0 +1,159 @@
+// The entry prove: document 01, 'CheckZero', the prover's side.
+ghost use mathlib.Core.Path.{_≡_};
+ghost use lib.Dec.{eqb};
+ghost use lib.ListN.{length};
+ghost use Rattle.lists.specs.Lent.{long};
+ghost use Rattle.refusal.specs.Answer.{firstOf, decided};
+ghost use Rattle.refusal.specs.declared.Answer.the-variants.{Done};
+ghost use Rattle.field.specs.Level.{levelAt};
+ghost use Rattle.key.specs.Key.{Sized, lengths};
+ghost use Rattle.prover.specs.Entry.{proveLent, proveRows, topsRow, proveResult, proveOutcome};
+ghost use Rattle.prover.specs.Solved.{Solved};
+use key::Key;
+use refusal::Answer;
+use refusal::Refusal;
+
+// Words of work space: d + 1 coefficients for each of n + m polynomials, at the widest level.
+const POLYNOMIALS: usize = 10668;
+
+// Zero exactly when each slice has its length.
+fn lengths(
+    key: Key,
+    h: &[u16],
+    x: &[u16],
+    positions: &[u8],
+    u: &[u8],
+    v: &[u16],
+    r: &[u16],
+    s: &[u16],
+    alpha: &[u16],
+    t: &[u8],
+    a: &[u16],
+) -> usize
+    requires { ⌜ Sized (levelAt 1) key ⌝ }
+    ensures { λ o. ⌜ eqb o 0 ≡ long (proveLent (lengths (levelAt 1) key) (now (h .entry)) (now (x .entry)) (now (positions .entry)) (now (u .entry)) (now (v .entry)) (now (r .entry)) (now (s .entry)) (now (alpha .entry)) (now (t .entry)) (now (a .entry))) ⌝ }
+{
+    let n = key.lengths(1);
+    let outputs = (t.len() ^ n.bits) | (a.len() ^ n.proof);
+    let masks = (r.len() ^ n.masks) | ((s.len() ^ n.masks) | ((alpha.len() ^ n.values) | outputs));
+    let material = (positions.len() ^ n.positions)
+        | ((u.len() ^ n.bits) | ((v.len() ^ n.elements) | masks));
+    (h.len() ^ n.matrix) | ((x.len() ^ n.vector) | material)
+}
+
+// The first of refusals 1 to 7 that applies, or Done.
+fn refused(
+    key: Key,
+    h: &[u16],
+    x: &[u16],
+    positions: &[u8],
+    u: &[u8],
+    v: &[u16],
+    r: &[u16],
+    s: &[u16],
+    alpha: &[u16],
+    t: &[u8],
+    a: &[u16],
+) -> Answer
+    ensures { λ o. ⌜ o ≡ firstOf (proveRows (levelAt 1) key (now (h .entry)) (now (x .entry)) (now (positions .entry)) (now (u .entry)) (now (v .entry)) (now (r .entry)) (now (s .entry)) (now (alpha .entry)) (now (t .entry)) (now (a .entry))) ⌝ }
+{
+    let sizes = key.sizes(1);
+    if let Answer::Refused(_) = sizes {
+        return sizes;
+    }
+    let slices = lengths(key, h, x, positions, u, v, r, s, alpha, t, a);
+    let elements = field::excess(h, 1) | field::excess(x, 1);
+    let coordinates = field::excess(v, 1)
+        | (field::excess(r, 1) | (field::excess(s, 1) | field::excess(alpha, 1)));
+    let positions = key::over(positions, key.degree());
+    key::checks(slices, elements, key::over(u, 1), coordinates, positions)
+}
+
+// Makes the polynomials in the room p and, where all their tops are zero, writes t and a; otherwise refuses with 8.
+fn weigh(
+    key: Key,
+    h: &[u16],
+    x: &[u16],
+    positions: &[u8],
+    u: &[u8],
+    v: &[u16],
+    r: &[u16],
+    s: &[u16],
+    alpha: &[u16],
+    t: &mut [u8],
+    a: &mut [u16],
+    p: &mut [u16],
+) -> Answer
+    requires { ⌜ firstOf (proveRows (levelAt 1) key (now h) (now x) (now positions) (now u) (now v) (now r) (now s) (now alpha) (now t) (now a)) ≡ Done ⌝ }
+    requires { ⌜ length (now p) ≡ lengths (levelAt 1) key .polynomials ⌝ }
+    ensures { λ o. ⌜ (o, (now (t .exit), now (a .exit))) ≡ decided (topsRow (levelAt 1) key (now (h .entry)) (now (x .entry)) (now (positions .entry)) (now (v .entry))) (proveResult (levelAt 1) key (now (h .entry)) (now (x .entry)) (now (positions .entry)) (now (u .entry)) (now (v .entry)) (now (r .entry)) (now (s .entry)) (now (alpha .entry))) (now (t .entry), now (a .entry)) ⌝ }
+{
+    constraints::write_polynomials(key, h, x, positions, v, p);
+    let size = key.n + key.m;
+    let d = key.degree();
+    if checkzero::tops(p, size, d, 1) != 0 {
+        return Answer::Refused(Refusal::TOP);
+    }
+    constraints::write_masked_witness(key, positions, u, t);
+    checkzero::proof(a, p, alpha, r, s, size, d, 1);
+    Answer::Done
+}
+
+// The same, with room of its own.
+fn work(
+    key: Key,
+    h: &[u16],
+    x: &[u16],
+    positions: &[u8],
+    u: &[u8],
+    v: &[u16],
+    r: &[u16],
+    s: &[u16],
+    alpha: &[u16],
+    t: &mut [u8],
+    a: &mut [u16],
+) -> Answer
+    requires { ⌜ firstOf (proveRows (levelAt 1) key (now h) (now x) (now positions) (now u) (now v) (now r) (now s) (now alpha) (now t) (now a)) ≡ Done ⌝ }
+    ensures { λ o. ⌜ (o, (now (t .exit), now (a .exit))) ≡ decided (topsRow (levelAt 1) key (now (h .entry)) (now (x .entry)) (now (positions .entry)) (now (v .entry))) (proveResult (levelAt 1) key (now (h .entry)) (now (x .entry)) (now (positions .entry)) (now (u .entry)) (now (v .entry)) (now (r .entry)) (now (s .entry)) (now (alpha .entry))) (now (t .entry), now (a .entry)) ⌝ }
+{
+    let length = key.lengths(1).polynomials;
+    let mut polynomials = [0u16; POLYNOMIALS];
+    weigh(
+        key,
+        h,
+        x,
+        positions,
+        u,
+        v,
+        r,
+        s,
+        alpha,
+        t,
+        a,
+        &mut polynomials[..length],
+    )
+}
+
+// Writes t, the masked witness, and a, the proof.
+pub fn prove(
+    key: Key,
+    h: &[u16],
+    x: &[u16],
+    positions: &[u8],
+    u: &[u8],
+    v: &[u16],
+    r: &[u16],
+    s: &[u16],
+    alpha: &[u16],
+    t: &mut [u8],
+    a: &mut [u16],
+) -> Answer
+    ensures outcome { λ o. ⌜ (o, (now (t .exit), now (a .exit))) ≡ proveOutcome (levelAt 1) key (now (h .entry)) (now (x .entry)) (now (positions .entry)) (now (u .entry)) (now (v .entry)) (now (r .entry)) (now (s .entry)) (now (alpha .entry)) (now (t .entry)) (now (a .entry)) ⌝ }
+    ensures solved { λ o. ⌜ Solved (levelAt 1) key (now (h .entry)) (now (x .entry)) (now (positions .entry)) (now (u .entry)) (now (v .entry)) (now (r .entry)) (now (s .entry)) (now (alpha .entry)) (now (t .entry)) (now (a .entry)) o ⌝ }
+{
+    let answer = refused(key, h, x, positions, u, v, r, s, alpha, t, a);
+    match answer {
+        Answer::Done => work(key, h, x, positions, u, v, r, s, alpha, t, a),
+        Answer::Refused(_) => answer,
+    }
+}

@@ -1,0 +1,4 @@
+pub mod Fine
+pub mod Sides
+pub mod Judged
+pub mod Completeness

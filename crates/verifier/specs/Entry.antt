@@ -1,0 +1,44 @@
+-- What the entry verify answers.
+use mathlib.Core.Path.{_≡_}
+use mathlib.Core.Logic.{_↔_}
+use mathlib.Core.Bool.{Bool, true}
+use mathlib.Core.List.{List, [], _∷_, _++_}
+use Prim.Native.Nat.{ℕ}
+use Rattle.lists.specs.Lent.{long}
+use Rattle.refusal.specs.Answer.{firstOf}
+use Rattle.refusal.specs.Verdict.{judged}
+use Rattle.refusal.specs.declared.Answer.the-variants.{Done}
+use Rattle.refusal.specs.declared.Verdict.{Verdict}
+use Rattle.refusal.specs.declared.Verdict.the-variants.{Accepted, Rejected}
+use Rattle.field.specs.declared.Level.{Level}
+use Rattle.key.specs.declared.Key.{Key}
+use Rattle.key.specs.declared.Lengths.{Lengths}
+use Rattle.key.specs.Key.{lengths, sizes, below, withins, checks}
+use Rattle.constraints.specs.Entry.{system}
+use Rattle.checkzero.specs.Slices.{AcceptsSlices, accepts}
+
+-- "verify (takes these with the mask numbers, α and a; answers Accepted or Rejected)", these being "the key, t, q and Δ"
+abbrev pub verifyLent : Lengths → (h x t q Δ masks α a : List ℕ) → List (List ℕ × ℕ)
+verifyLent len h x t q Δ masks α a =
+    (h, len .matrix)
+    ∷ (x, len .vector)
+    ∷ (t, len .bits)
+    ∷ (q, len .elements)
+    ∷ (Δ, len .one)
+    ∷ (masks, len .masks)
+    ∷ (α, len .values)
+    ∷ (a, len .proof)
+    ∷ []
+
+module _ (l : Level) (key : Key) where
+  -- its refusals, in order
+  abbrev pub verifyRows : (h x t q Δ masks α a : List ℕ) → List (Bool × ℕ)
+  verifyRows h x t q Δ masks α a = sizes l key ++ checks (long (verifyLent (lengths l key) h x t q Δ masks α a)) (withins l (h ∷ x ∷ [])) (below 1 t) (withins l (q ∷ Δ ∷ masks ∷ α ∷ a ∷ [])) true
+
+  unfoldable pub verifyOutcome : (h x t q Δ masks α a : List ℕ) → Verdict
+  verifyOutcome h x t q Δ masks α a = judged (firstOf (verifyRows h x t q Δ masks α a)) (accepts l (system l key h x) t q Δ masks α a)
+
+  -- where no refusal applies: "The verifier accepts exactly when a at Δ equals" the verifier's side
+  pub record Judges (h x t q Δ masks α a : List ℕ) (verdict : Verdict) : Type 0 where
+    pub accepted : (verdict ≡ Accepted) ↔ ((firstOf (verifyRows h x t q Δ masks α a) ≡ Done) × AcceptsSlices l (system l key h x) t q Δ masks α a)
+    pub rejected : (verdict ≡ Rejected) ↔ ((firstOf (verifyRows h x t q Δ masks α a) ≡ Done) × (AcceptsSlices l (system l key h x) t q Δ masks α a → ⊥))

@@ -1,0 +1,150 @@
+// The entry verify: document 01, 'CheckZero', the verifier's side.
+ghost use mathlib.Core.Path.{_≡_};
+ghost use lib.Dec.{eqb};
+ghost use lib.ListN.{length};
+ghost use Rattle.lists.specs.Lent.{long};
+ghost use Rattle.refusal.specs.Answer.{firstOf};
+ghost use Rattle.refusal.specs.declared.Answer.the-variants.{Done};
+ghost use Rattle.field.specs.Level.{levelAt};
+ghost use Rattle.key.specs.Key.{Sized, lengths};
+ghost use Rattle.constraints.specs.Entry.{system};
+ghost use Rattle.checkzero.specs.Slices.{accepts};
+ghost use Rattle.verifier.specs.Entry.{verifyLent, verifyRows, verifyOutcome, Judges};
+use key::Key;
+use refusal::Answer;
+use refusal::Verdict;
+use rows::elements;
+
+// Words of work space: n + m values, at the widest level.
+const VALUES: usize = 1524;
+
+// Zero exactly when each slice has its length.
+fn lengths(
+    key: Key,
+    h: &[u16],
+    x: &[u16],
+    t: &[u8],
+    q: &[u16],
+    delta: &[u16],
+    masks: &[u16],
+    alpha: &[u16],
+    a: &[u16],
+) -> usize
+    requires { ⌜ Sized (levelAt 1) key ⌝ }
+    ensures { λ o. ⌜ eqb o 0 ≡ long (verifyLent (lengths (levelAt 1) key) (now (h .entry)) (now (x .entry)) (now (t .entry)) (now (q .entry)) (now (delta .entry)) (now (masks .entry)) (now (alpha .entry)) (now (a .entry))) ⌝ }
+{
+    let n = key.lengths(1);
+    let sums = (masks.len() ^ n.masks) | ((alpha.len() ^ n.values) | (a.len() ^ n.proof));
+    let material = (t.len() ^ n.bits) | ((q.len() ^ n.elements) | ((delta.len() ^ n.one) | sums));
+    (h.len() ^ n.matrix) | ((x.len() ^ n.vector) | material)
+}
+
+// The first refusal that applies, or Done.
+fn refused(
+    key: Key,
+    h: &[u16],
+    x: &[u16],
+    t: &[u8],
+    q: &[u16],
+    delta: &[u16],
+    masks: &[u16],
+    alpha: &[u16],
+    a: &[u16],
+) -> Answer
+    ensures { λ o. ⌜ o ≡ firstOf (verifyRows (levelAt 1) key (now (h .entry)) (now (x .entry)) (now (t .entry)) (now (q .entry)) (now (delta .entry)) (now (masks .entry)) (now (alpha .entry)) (now (a .entry))) ⌝ }
+{
+    let sizes = key.sizes(1);
+    if let Answer::Refused(_) = sizes {
+        return sizes;
+    }
+    let slices = lengths(key, h, x, t, q, delta, masks, alpha, a);
+    let elements = field::excess(h, 1) | field::excess(x, 1);
+    let coordinates = field::excess(q, 1)
+        | (field::excess(delta, 1)
+            | (field::excess(masks, 1) | (field::excess(alpha, 1) | field::excess(a, 1))));
+    key::checks(slices, elements, key::over(t, 1), coordinates, 0)
+}
+
+// Zero exactly when a at the challenge equals the weighted sum of the values plus the mask sum. The values are made in the room p.
+fn difference(
+    key: Key,
+    h: &[u16],
+    x: &[u16],
+    t: &[u8],
+    q: &[u16],
+    delta: &[u16],
+    masks: &[u16],
+    alpha: &[u16],
+    a: &[u16],
+    p: &mut [u16],
+) -> u16
+    requires { ⌜ firstOf (verifyRows (levelAt 1) key (now h) (now x) (now t) (now q) (now delta) (now masks) (now alpha) (now a)) ≡ Done ⌝ }
+    requires { ⌜ length (now p) ≡ lengths (levelAt 1) key .values ⌝ }
+    ensures { λ o. ⌜ eqb o 0 ≡ accepts (levelAt 1) (system (levelAt 1) key (now (h .entry)) (now (x .entry))) (now (t .entry)) (now (q .entry)) (now (delta .entry)) (now (masks .entry)) (now (alpha .entry)) (now (a .entry)) ⌝ }
+{
+    constraints::write_values(key, h, x, t, q, delta, p);
+    let d = key.degree();
+    let challenge = elements::get(delta, 0, 1);
+    let values = checkzero::weighted_sum(p, alpha, key.n + key.m, 1);
+    let expected = values.plus(checkzero::mask_sum(masks, challenge, d - 1, 1), 1);
+    let given = checkzero::evaluate(a, challenge, d, 1);
+    given.plus(expected, 1).nonzero(1)
+}
+
+// The same, with room of its own.
+fn work(
+    key: Key,
+    h: &[u16],
+    x: &[u16],
+    t: &[u8],
+    q: &[u16],
+    delta: &[u16],
+    masks: &[u16],
+    alpha: &[u16],
+    a: &[u16],
+) -> u16
+    requires { ⌜ firstOf (verifyRows (levelAt 1) key (now h) (now x) (now t) (now q) (now delta) (now masks) (now alpha) (now a)) ≡ Done ⌝ }
+    ensures { λ o. ⌜ eqb o 0 ≡ accepts (levelAt 1) (system (levelAt 1) key (now (h .entry)) (now (x .entry))) (now (t .entry)) (now (q .entry)) (now (delta .entry)) (now (masks .entry)) (now (alpha .entry)) (now (a .entry)) ⌝ }
+{
+    let length = key.lengths(1).values;
+    let mut values = [0u16; VALUES];
+    difference(
+        key,
+        h,
+        x,
+        t,
+        q,
+        delta,
+        masks,
+        alpha,
+        a,
+        &mut values[..length],
+    )
+}
+
+// Accepted exactly when a at the challenge equals the weighted sum of the values plus the mask sum.
+pub fn verify(
+    key: Key,
+    h: &[u16],
+    x: &[u16],
+    t: &[u8],
+    q: &[u16],
+    delta: &[u16],
+    masks: &[u16],
+    alpha: &[u16],
+    a: &[u16],
+) -> Verdict
+    ensures outcome { λ o. ⌜ o ≡ verifyOutcome (levelAt 1) key (now (h .entry)) (now (x .entry)) (now (t .entry)) (now (q .entry)) (now (delta .entry)) (now (masks .entry)) (now (alpha .entry)) (now (a .entry)) ⌝ }
+    ensures judges { λ o. ⌜ Judges (levelAt 1) key (now (h .entry)) (now (x .entry)) (now (t .entry)) (now (q .entry)) (now (delta .entry)) (now (masks .entry)) (now (alpha .entry)) (now (a .entry)) o ⌝ }
+{
+    match refused(key, h, x, t, q, delta, masks, alpha, a) {
+        Answer::Done => {
+            if work(key, h, x, t, q, delta, masks, alpha, a) == 0 {
+                Verdict::Accepted
+            } else {
+                Verdict::Rejected
+            }
+        }
+        Answer::Refused(refusal) => Verdict::Refused(refusal),
+    }
+}

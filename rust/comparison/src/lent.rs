@@ -93,6 +93,34 @@ pub enum Lent {
     Words(Buffer<u16>),
 }
 
+/// The type of the elements of a lent slice.
+pub trait Element: Sized {
+    /// The content of a slice of these elements.
+    fn of(lent: &Lent) -> &[Self];
+    /// The content of a slice of these elements, to write.
+    fn of_mut(lent: &mut Lent) -> &mut [Self];
+}
+
+impl Element for u8 {
+    fn of(lent: &Lent) -> &[u8] {
+        lent.bytes()
+    }
+
+    fn of_mut(lent: &mut Lent) -> &mut [u8] {
+        lent.bytes_mut()
+    }
+}
+
+impl Element for u16 {
+    fn of(lent: &Lent) -> &[u16] {
+        lent.words()
+    }
+
+    fn of_mut(lent: &mut Lent) -> &mut [u16] {
+        lent.words_mut()
+    }
+}
+
 /// Any byte.
 fn any_byte(generator: &mut Generator) -> u8 {
     generator.number() as u8
@@ -199,11 +227,11 @@ impl Lent {
         }
     }
 
-    /// Changes the lowest bit of an element.
-    pub fn alter(&mut self, index: usize) {
+    /// Changes one bit of an element.
+    pub fn change(&mut self, index: usize, bit: usize) {
         match self {
-            Lent::Bytes(buffer) => buffer.content_mut()[index] ^= 1,
-            Lent::Words(buffer) => buffer.content_mut()[index] ^= 1,
+            Lent::Bytes(buffer) => buffer.content_mut()[index] ^= 1 << bit,
+            Lent::Words(buffer) => buffer.content_mut()[index] ^= 1 << bit,
         }
     }
 

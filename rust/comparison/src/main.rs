@@ -4,8 +4,9 @@
 //! usage: compare [SEED] [--spoil N]
 //!
 //! `--spoil N` alters word N of one expected output of each entry that has such
-//! a word, so that the run must find as many differences and fail; an entry
-//! then ends with the group of that output. The exit status is 0 when all
+//! a word, and one expected answer of each entry without outputs, so that the
+//! run must find as many differences and fail; an entry then ends with the
+//! group of that case. The exit status is 0 when all
 //! groups passed, 1 when one failed or none ran, and 2 when the arguments are
 //! wrong.
 #![deny(missing_docs)]
@@ -43,10 +44,6 @@ fn main() -> ExitCode {
     let mut run = Run::new(seed, spoil);
     for entry in entries::ALL {
         run.entry(entry);
-    }
-    if let Some(n) = run.not_spoiled() {
-        eprintln!("compare: no expected output has a word {n}");
-        return ExitCode::from(2);
     }
     if run.finish() {
         ExitCode::SUCCESS

@@ -1,169 +1,127 @@
 //! The C functions of libperk.a, as functions on slices. Each answers 0 when
-//! it is done, else the number of the refusal.
+//! it is done, else the number of the refusal; verify answers 255 when it
+//! rejects.
+//!
+//! Beside each function stands a module of its name, with the names of what it
+//! takes, and with a call of any implementation on the slices of a case.
 #![allow(unsafe_code)]
 
-/// The C functions. A slice is a pointer, then a length in elements.
-mod c {
-    extern "C" {
-        pub fn perk_sum(
-            a: *const u16,
-            a_len: usize,
-            b: *const u16,
-            b_len: usize,
-            out: *mut u16,
-            out_len: usize,
-        ) -> u32;
+use crate::lent::{Element, Lent};
 
-        pub fn perk_product(
-            a: *const u16,
-            a_len: usize,
-            b: *const u16,
-            b_len: usize,
-            out: *mut u16,
-            out_len: usize,
-        ) -> u32;
+/// Declares C functions, and for each a function on slices that calls it, and
+/// its module. A function takes numbers, then slices that it reads, then slices
+/// that it writes. In C a slice is a pointer, then a length in elements.
+macro_rules! entries {
+    ($(
+        $(#[$about:meta])*
+        $name:ident = $function:ident,
+        numbers ($($number:ident),*),
+        inputs ($($input:ident: $read:ty),*),
+        outputs ($($output:ident: $written:ty),*);
+    )*) => {$(
+        $(#[$about])*
+        #[allow(clippy::too_many_arguments)]
+        #[inline]
+        pub fn $name(
+            $($number: usize,)*
+            $($input: &[$read],)*
+            $($output: &mut [$written],)*
+        ) -> u32 {
+            extern "C" {
+                fn $function(
+                    $($number: usize,)*
+                    $($input: *const $read, _: usize,)*
+                    $($output: *mut $written, _: usize,)*
+                ) -> u32;
+            }
+            // SAFETY: the slices are valid for their lengths, and no output
+            // overlaps another slice.
+            unsafe {
+                $function(
+                    $($number,)*
+                    $($input.as_ptr(), $input.len(),)*
+                    $($output.as_mut_ptr(), $output.len(),)*
+                )
+            }
+        }
 
-        pub fn perk_constraints(
-            n: usize,
-            m: usize,
-            h: *const u16,
-            h_len: usize,
-            x: *const u16,
-            x_len: usize,
-            positions: *const u8,
-            positions_len: usize,
-            u: *const u8,
-            u_len: usize,
-            v: *const u16,
-            v_len: usize,
-            t: *mut u8,
-            t_len: usize,
-            polynomials: *mut u16,
-            polynomials_len: usize,
-        ) -> u32;
+        $(#[$about])*
+        pub mod $name {
+            use super::{Element, Lent};
 
-        pub fn perk_values(
-            n: usize,
-            m: usize,
-            h: *const u16,
-            h_len: usize,
-            x: *const u16,
-            x_len: usize,
-            t: *const u8,
-            t_len: usize,
-            q: *const u16,
-            q_len: usize,
-            delta: *const u16,
-            delta_len: usize,
-            values: *mut u16,
-            values_len: usize,
-        ) -> u32;
-    }
+            /// The names of the numbers.
+            pub const NUMBERS: &[&str] = &[$(stringify!($number)),*];
+            /// The names of the slices that it reads.
+            pub const INPUTS: &[&str] = &[$(stringify!($input)),*];
+            /// The names of the slices that it writes.
+            pub const OUTPUTS: &[&str] = &[$(stringify!($output)),*];
+
+            /// Calls an implementation with lent slices.
+            pub fn with<A>(
+                entry: fn(
+                    $(type_of_number!($number),)*
+                    $(&[$read],)*
+                    $(&mut [$written],)*
+                ) -> A,
+                numbers: &[usize],
+                inputs: &[Lent],
+                outputs: &mut [Lent],
+            ) -> A {
+                let ([$($number),*], [$($input),*], [$($output),*]) = (numbers, inputs, outputs)
+                else {
+                    panic!("other slices than those of the entry");
+                };
+                entry(
+                    $(*$number,)*
+                    $(<$read>::of($input),)*
+                    $(<$written>::of_mut($output),)*
+                )
+            }
+        }
+    )*};
 }
 
-/// The entry sum in K.
-#[inline]
-pub fn sum(a: &[u16], b: &[u16], out: &mut [u16]) -> u32 {
-    // SAFETY: the slices are valid for their lengths, and `out` overlaps no
-    // other slice.
-    unsafe {
-        c::perk_sum(
-            a.as_ptr(),
-            a.len(),
-            b.as_ptr(),
-            b.len(),
-            out.as_mut_ptr(),
-            out.len(),
-        )
-    }
+/// The type of each number.
+macro_rules! type_of_number {
+    ($number:ident) => {
+        usize
+    };
 }
 
-/// The entry product in K.
-#[inline]
-pub fn product(a: &[u16], b: &[u16], out: &mut [u16]) -> u32 {
-    // SAFETY: the slices are valid for their lengths, and `out` overlaps no
-    // other slice.
-    unsafe {
-        c::perk_product(
-            a.as_ptr(),
-            a.len(),
-            b.as_ptr(),
-            b.len(),
-            out.as_mut_ptr(),
-            out.len(),
-        )
-    }
-}
+entries! {
+    /// The entry sum in K.
+    sum = perk_sum,
+    numbers (),
+    inputs (a: u16, b: u16),
+    outputs (out: u16);
 
-/// The entry constraints.
-#[allow(clippy::too_many_arguments)]
-#[inline]
-pub fn constraints(
-    n: usize,
-    m: usize,
-    h: &[u16],
-    x: &[u16],
-    positions: &[u8],
-    u: &[u8],
-    v: &[u16],
-    t: &mut [u8],
-    polynomials: &mut [u16],
-) -> u32 {
-    // SAFETY: the slices are valid for their lengths, and neither `t` nor
-    // `polynomials` overlaps another slice.
-    unsafe {
-        c::perk_constraints(
-            n,
-            m,
-            h.as_ptr(),
-            h.len(),
-            x.as_ptr(),
-            x.len(),
-            positions.as_ptr(),
-            positions.len(),
-            u.as_ptr(),
-            u.len(),
-            v.as_ptr(),
-            v.len(),
-            t.as_mut_ptr(),
-            t.len(),
-            polynomials.as_mut_ptr(),
-            polynomials.len(),
-        )
-    }
-}
+    /// The entry product in K.
+    product = perk_product,
+    numbers (),
+    inputs (a: u16, b: u16),
+    outputs (out: u16);
 
-/// The entry values.
-#[allow(clippy::too_many_arguments)]
-#[inline]
-pub fn values(
-    n: usize,
-    m: usize,
-    h: &[u16],
-    x: &[u16],
-    t: &[u8],
-    q: &[u16],
-    delta: &[u16],
-    values: &mut [u16],
-) -> u32 {
-    // SAFETY: the slices are valid for their lengths, and `values` overlaps no
-    // other slice.
-    unsafe {
-        c::perk_values(
-            n,
-            m,
-            h.as_ptr(),
-            h.len(),
-            x.as_ptr(),
-            x.len(),
-            t.as_ptr(),
-            t.len(),
-            q.as_ptr(),
-            q.len(),
-            delta.as_ptr(),
-            delta.len(),
-            values.as_mut_ptr(),
-            values.len(),
-        )
-    }
+    /// The entry constraints.
+    constraints = perk_constraints,
+    numbers (n, m),
+    inputs (h: u16, x: u16, positions: u8, u: u8, v: u16),
+    outputs (t: u8, polynomials: u16);
+
+    /// The entry prove.
+    prove = perk_prove,
+    numbers (n, m),
+    inputs (h: u16, x: u16, positions: u8, u: u8, v: u16, r: u16, s: u16, alpha: u16),
+    outputs (t: u8, a: u16);
+
+    /// The entry values.
+    values = perk_values,
+    numbers (n, m),
+    inputs (h: u16, x: u16, t: u8, q: u16, delta: u16),
+    outputs (values: u16);
+
+    /// The entry verify.
+    verify = perk_verify,
+    numbers (n, m),
+    inputs (h: u16, x: u16, t: u8, q: u16, delta: u16, masks: u16, alpha: u16, a: u16),
+    outputs ();
 }

@@ -13,12 +13,15 @@ type Tally = BTreeMap<u32, usize>;
 /// A run over all entries.
 pub struct Run {
     seed: u64,
-    /// The word to alter in one expected output of each entry.
+    /// The word to alter in one expected output of each entry; an entry without
+    /// outputs has its answer altered.
     spoil: Option<usize>,
     /// Words that were altered.
     altered: usize,
     /// Altered words that were found.
     found: usize,
+    /// Entries without a word to alter.
+    unaltered: usize,
     /// Calls of the library.
     calls: usize,
     /// Calls of the library that ended without a refusal.
@@ -99,13 +102,17 @@ fn difference(entry: &Entry, case: &Case, found: &After, expected: &After) -> Op
         })
 }
 
-/// Alters word N of the outputs, counted through all of them; whether there is
-/// such a word.
-fn alter(outputs: &mut [Lent], n: usize) -> bool {
+/// Alters word N of the outputs, counted through all of them, or the answer of
+/// an entry without outputs; whether there is such a word.
+fn alter(expected: &mut After, n: usize) -> bool {
+    if expected.outputs.is_empty() {
+        expected.answer ^= 1;
+        return true;
+    }
     let mut rest = n;
-    for output in outputs {
+    for output in &mut expected.outputs {
         if rest < output.len() {
-            output.alter(rest);
+            output.change(rest, 0);
             return true;
         }
         rest -= output.len();
@@ -143,14 +150,15 @@ fn answers(tally: &Tally) -> String {
 
 impl Run {
     /// A run with this seed. When `spoil` is N, word N of one expected output
-    /// of each entry is altered, and an entry ends with the group where this is
-    /// done.
+    /// of each entry is altered, or one expected answer of an entry without
+    /// outputs, and an entry ends with the group where this is done.
     pub fn new(seed: u64, spoil: Option<usize>) -> Run {
         Run {
             seed,
             spoil,
             altered: 0,
             found: 0,
+            unaltered: 0,
             calls: 0,
             done: 0,
             passed: 0,
@@ -176,7 +184,7 @@ impl Run {
         if let Some(fault) = reference_fault(case, &expected) {
             return (found.answer, Some(fault));
         }
-        let spoiled = done && spoil.is_some_and(|n| alter(&mut expected.outputs, n));
+        let spoiled = done && spoil.is_some_and(|n| alter(&mut expected, n));
         let mut difference = difference(entry, case, &found, &expected);
         if spoiled {
             *spoil = None;
@@ -251,6 +259,7 @@ impl Run {
                 return;
             }
         }
+        self.unaltered += usize::from(spoil.is_some());
         let mut faults = Vec::new();
         for (answer, &count) in &total {
             let known = entry.done.contains(answer) || entry.refusals.contains(answer);
@@ -269,14 +278,10 @@ impl Run {
         self.report(&text, &faults);
     }
 
-    /// The word that `--spoil` names, where no expected output has had it.
-    pub fn not_spoiled(&self) -> Option<usize> {
-        self.spoil.filter(|_| self.altered == 0)
-    }
-
-    /// How many words were altered, and how many of them were found.
-    pub fn altered_words(&self) -> (usize, usize) {
-        (self.altered, self.found)
+    /// How many words were altered, how many of them were found, and how many
+    /// entries had no such word.
+    pub fn altered_words(&self) -> [usize; 3] {
+        [self.altered, self.found, self.unaltered]
     }
 
     /// Ends the run: how many altered words were found, the share of calls
@@ -284,6 +289,9 @@ impl Run {
     pub fn finish(mut self) -> bool {
         if self.spoil.is_some() {
             println!("{} of {} altered words found", self.found, self.altered);
+            if self.unaltered > 0 {
+                println!("{} entries without such a word", self.unaltered);
+            }
         }
         let text = format!("{} of {} calls without a refusal", self.done, self.calls);
         let mut faults = Vec::new();

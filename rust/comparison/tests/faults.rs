@@ -63,7 +63,6 @@ fn entry(library: Call, groups: &'static [Group]) -> Entry {
 fn passes(entry: Entry, spoil: Option<usize>) -> bool {
     let mut run = Run::new(1, spoil);
     run.entry(&entry);
-    assert_eq!(run.not_spoiled(), None);
     run.finish()
 }
 
@@ -147,6 +146,45 @@ fn expected_word_altered() {
     assert!(!passes(entry(right, &[ALL]), Some(0)));
 }
 
+/// The entry without its output: the answer alone is compared.
+fn without_output(library: Call) -> Entry {
+    const ANSWERS: Group = Group {
+        name: "answers",
+        cases: |generator, each| {
+            for (input, answer) in [(&[0][..], 0), (&[1], 0), (&[2], 5), (&[0, 0], 3)] {
+                let outputs = Vec::new();
+                let case = case(generator, input, 0, answer);
+                each(Case { outputs, ..case });
+            }
+        },
+    };
+    Entry {
+        outputs: &[],
+        reference: answer_of_right,
+        ..entry(library, &[ANSWERS])
+    }
+}
+
+/// The answer for an output of the right length.
+fn answer_of_right(numbers: &[usize], inputs: &[Lent], _: &mut [Lent]) -> u32 {
+    let output = Lent::with_bytes(&[0], &mut Generator::new(1));
+    right(numbers, inputs, &mut [output])
+}
+
+#[test]
+fn expected_answer_altered() {
+    assert!(passes(without_output(answer_of_right), None));
+    let mut run = Run::new(1, Some(7));
+    run.entry(&without_output(answer_of_right));
+    assert_eq!(run.altered_words(), [1, 1, 0]);
+    assert!(!run.finish());
+}
+
+#[test]
+fn wrong_answer_without_an_output() {
+    assert!(!passes(without_output(|_, _, _| 0), None));
+}
+
 #[test]
 fn group_without_a_case() {
     const EMPTY: Group = Group {
@@ -215,7 +253,7 @@ fn altered_twice(library: Call) -> Run {
 
 #[test]
 fn a_word_altered_in_each_entry() {
-    assert_eq!(altered_twice(right).altered_words(), (2, 2));
+    assert_eq!(altered_twice(right).altered_words(), [2, 2, 0]);
     // This output is the altered one.
     let run = altered_twice(|numbers, inputs, outputs| {
         let answer = right(numbers, inputs, outputs);
@@ -224,7 +262,14 @@ fn a_word_altered_in_each_entry() {
         }
         answer
     });
-    assert_eq!(run.altered_words(), (2, 1));
+    assert_eq!(run.altered_words(), [2, 1, 0]);
+}
+
+#[test]
+fn no_word_to_alter() {
+    let mut run = Run::new(1, Some(1));
+    run.entry(&entry(right, &[ALL]));
+    assert_eq!(run.altered_words(), [0, 0, 1]);
 }
 
 #[test]

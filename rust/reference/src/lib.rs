@@ -15,13 +15,15 @@
 //! - [`entries`]: the public entries with their refusals;
 //! - [`package`]: the readers, and writers for test files;
 //! - [`perkcheck`]: the line that the program `perkcheck` prints;
-//! - [`samples`] and [`vectors`]: seeded test data and the files of `vectors/`.
+//! - [`samples`] and [`vectors`]: seeded test data and the files of `vectors/`;
+//! - [`examples`]: what the program `examples_run` prints.
 #![forbid(unsafe_code)]
 #![deny(missing_docs)]
 
 pub mod check_zero;
 pub mod constraint;
 pub mod entries;
+pub mod examples;
 pub mod key;
 pub mod large_field;
 pub mod package;

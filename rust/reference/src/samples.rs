@@ -75,6 +75,21 @@ pub fn in_order(x: &[u16], positions: &[u8]) -> Vec<u16> {
         .collect()
 }
 
+/// Whether the positions are 0 to n - 1, each once, and "H times x in that
+/// order" is zero. All words are at most 2047.
+pub fn solves(n: usize, h: &[u16], x: &[u16], positions: &[u8]) -> bool {
+    let mut sorted = positions.to_vec();
+    sorted.sort_unstable();
+    if !sorted.into_iter().map(usize::from).eq(0..n) {
+        return false;
+    }
+    let entries = in_order(x, positions);
+    h.chunks(n).all(|row| {
+        let products = row.iter().zip(&entries);
+        products.fold(F::ZERO, |sum, (&h, &x)| sum + small(h) * small(x)) == F::ZERO
+    })
+}
+
 /// A row of H with random entries, one of them changed so that the sum of
 /// H(e,i) times entry i is zero.
 pub fn orthogonal_row(entries: &[u16], generator: &mut Generator) -> Vec<u16> {
@@ -185,6 +200,17 @@ impl Sample {
             serial,
         };
         sample.make_honest();
+        sample
+    }
+
+    /// A sample whose key every order solves: all entries of x are the same,
+    /// and each row of H has the sum zero.
+    pub fn solved_by_all(n: usize, m: usize, generator: &mut Generator) -> Sample {
+        let mut sample = Sample::solving(n, m, generator);
+        sample.x = vec![generator.word() | 1; n];
+        for row in sample.h.chunks_mut(n) {
+            row[0] = row[1..].iter().fold(0, |sum, word| sum ^ word);
+        }
         sample
     }
 

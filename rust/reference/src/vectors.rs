@@ -2,6 +2,7 @@
 //! All of them come from fixed seeds, so a second run gives the same bytes.
 
 use crate::entries::{constraints, values};
+use crate::examples;
 use crate::key::Sizes;
 use crate::large_field::COORDINATES;
 use crate::package::{join, WrittenField};
@@ -18,7 +19,10 @@ pub const SIZES: [(usize, usize); 7] =
 
 /// All files of `vectors/`.
 pub fn all() -> Vec<File> {
-    let mut files = vec![("key_a.check".to_string(), key_a_file())];
+    let mut files = vec![
+        ("key_a.check".to_string(), key_a_file()),
+        ("examples_run.txt".to_string(), text_of_examples()),
+    ];
     for (n, m) in SIZES {
         files.push((text_name(n, m), text(&sample(n, m)).into_bytes()));
     }
@@ -29,6 +33,11 @@ pub fn all() -> Vec<File> {
 /// The check file of key A.
 pub fn key_a_file() -> Vec<u8> {
     Sample::key_a().check_file().expect("key A is solved")
+}
+
+/// What the program `examples_run` prints.
+fn text_of_examples() -> Vec<u8> {
+    examples::text().into_bytes()
 }
 
 /// The name of the text file of a size.

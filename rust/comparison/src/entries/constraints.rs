@@ -1,9 +1,8 @@
 //! The entries constraints and values.
 
-use super::keyed::{self, Keyed, Slice};
+use super::keyed::{self, set_bytes, set_words, Keyed, Slice, DELTA, H, POSITIONS, Q, T, U, V, X};
 use super::{number, DONE};
 use crate::case::{Case, Entry, Group, Stated};
-use crate::lent::Lent;
 use crate::perk;
 use reference::constraint::masked_witness;
 use reference::key::{bits, rows, witness, Sizes};
@@ -36,25 +35,23 @@ impl Keyed for Values {
         Slice::CORRELATIONS,
         Slice::DELTA,
     ];
-    const OUTPUTS: &'static [Slice] = &[Slice::VALUES];
+    const OUTPUTS: &'static [Slice] = &[Slice::WEIGHTS];
 }
 
 /// The entry constraints.
 pub const CONSTRAINTS: Entry = Entry {
     name: "constraints",
-    numbers: &["n", "m"],
-    inputs: &["h", "x", "positions", "u", "v"],
-    outputs: &["t", "polynomials"],
+    numbers: perk::constraints::NUMBERS,
+    inputs: perk::constraints::INPUTS,
+    outputs: perk::constraints::OUTPUTS,
     done: &[DONE],
     refusals: &[1, 2, 3, 4, 5, 6, 7],
-    library: |numbers, inputs, outputs| constraints(perk::constraints, numbers, inputs, outputs),
+    library: |numbers, inputs, outputs| {
+        perk::constraints::with(perk::constraints, numbers, inputs, outputs)
+    },
     reference: |numbers, inputs, outputs| {
-        number(constraints(
-            reference::constraints,
-            numbers,
-            inputs,
-            outputs,
-        ))
+        let entry = reference::constraints;
+        number(perk::constraints::with(entry, numbers, inputs, outputs))
     },
     groups: &[
         EXAMPLES,
@@ -76,14 +73,15 @@ pub const CONSTRAINTS: Entry = Entry {
 /// The entry values.
 pub const VALUES: Entry = Entry {
     name: "values",
-    numbers: &["n", "m"],
-    inputs: &["h", "x", "t", "q", "delta"],
-    outputs: &["values"],
+    numbers: perk::values::NUMBERS,
+    inputs: perk::values::INPUTS,
+    outputs: perk::values::OUTPUTS,
     done: &[DONE],
     refusals: &[1, 2, 3, 4, 5, 6],
-    library: |numbers, inputs, outputs| values(perk::values, numbers, inputs, outputs),
+    library: |numbers, inputs, outputs| perk::values::with(perk::values, numbers, inputs, outputs),
     reference: |numbers, inputs, outputs| {
-        number(values(reference::values, numbers, inputs, outputs))
+        let entry = reference::values;
+        number(perk::values::with(entry, numbers, inputs, outputs))
     },
     groups: &[
         VALUES_EXAMPLES,
@@ -101,77 +99,6 @@ pub const VALUES: Entry = Entry {
         keyed::random_faults::<Values>(),
     ],
 };
-
-/// The entry constraints with an answer of some type.
-type ConstraintsOf<A> =
-    fn(usize, usize, &[u16], &[u16], &[u8], &[u8], &[u16], &mut [u8], &mut [u16]) -> A;
-
-/// Calls an implementation of constraints.
-fn constraints<A>(
-    entry: ConstraintsOf<A>,
-    numbers: &[usize],
-    inputs: &[Lent],
-    outputs: &mut [Lent],
-) -> A {
-    let ([n, m], [h, x, positions, u, v], [t, polynomials]) = (numbers, inputs, outputs) else {
-        panic!("other slices than those of constraints");
-    };
-    entry(
-        *n,
-        *m,
-        h.words(),
-        x.words(),
-        positions.bytes(),
-        u.bytes(),
-        v.words(),
-        t.bytes_mut(),
-        polynomials.words_mut(),
-    )
-}
-
-/// The entry values with an answer of some type.
-type ValuesOf<A> = fn(usize, usize, &[u16], &[u16], &[u8], &[u16], &[u16], &mut [u16]) -> A;
-
-/// Calls an implementation of values.
-fn values<A>(entry: ValuesOf<A>, numbers: &[usize], inputs: &[Lent], outputs: &mut [Lent]) -> A {
-    let ([n, m], [h, x, t, q, delta], [values]) = (numbers, inputs, outputs) else {
-        panic!("other slices than those of values");
-    };
-    entry(
-        *n,
-        *m,
-        h.words(),
-        x.words(),
-        t.bytes(),
-        q.words(),
-        delta.words(),
-        values.words_mut(),
-    )
-}
-
-// The inputs of both entries.
-const H: usize = 0;
-const X: usize = 1;
-
-// The further inputs of constraints.
-const POSITIONS: usize = 2;
-const U: usize = 3;
-const V: usize = 4;
-
-// The further inputs of values.
-const T: usize = 2;
-const Q: usize = 3;
-const DELTA: usize = 4;
-
-/// Sets the bytes of an input.
-fn set_bytes(case: &mut Case, input: usize, bytes: &[u8]) {
-    case.inputs[input].bytes_mut().copy_from_slice(bytes);
-}
-
-/// Sets the words of an input.
-fn set_words(case: &mut Case, input: usize, words: &[u16]) {
-    case.inputs[input].words_mut().copy_from_slice(words);
-}
 
 /// Positions below n that are no order: one of them twice, or all the same.
 fn repeated(n: usize, generator: &mut Generator) -> Vec<u8> {
@@ -198,7 +125,7 @@ const ORDER: usize = 2;
 /// A random case of constraints whose positions are an order that solves the
 /// key.
 fn solved(sizes: Sizes, generator: &mut Generator) -> Case {
-    let mut case = keyed::right::<Constraints>(sizes, generator);
+    let mut case = Constraints::right(sizes, generator);
     let positions = generator.order(sizes.n);
     let entries = in_order(case.inputs[X].words(), &positions);
     for row in case.inputs[H].words_mut().chunks_mut(sizes.n) {
@@ -214,7 +141,7 @@ fn with_positions(sizes: Sizes, kind: usize, generator: &mut Generator) -> Case 
     if kind == ORDER && generator.below(2) == 0 {
         return solved(sizes, generator);
     }
-    let mut case = keyed::right::<Constraints>(sizes, generator);
+    let mut case = Constraints::right(sizes, generator);
     let positions = KINDS[kind](sizes, generator);
     set_bytes(&mut case, POSITIONS, &positions);
     case
@@ -246,22 +173,11 @@ const SMALL_N: Group = Group {
     },
 };
 
-/// The extremes that are tried for n: all 81 combinations of four slices, each
-/// random, all 0, or of the largest value; from 8 on one combination.
-fn extremes(n: usize) -> Vec<[usize; 4]> {
-    let combination = |c: usize| [c % 3, c / 3 % 3, c / 9 % 3, c / 27];
-    match n {
-        2..=7 => (0..81).map(combination).collect(),
-        // 1 to 80: not all random
-        _ => vec![combination(1 + 7 * n % 80)],
-    }
-}
-
 const EXTREMES: Group = Group {
     name: "every n, words all 0 or 2047, bits all 0 or 1",
     cases: |generator, each| {
         for n in keyed::EVERY_N {
-            for (round, [h, x, u, v]) in extremes(n).into_iter().enumerate() {
+            for (round, [h, x, u, v]) in keyed::extremes(n).into_iter().enumerate() {
                 let m = 1 + generator.below(n - 1);
                 let sizes = keyed::sizes(n, m);
                 let mut case = with_positions(sizes, (n + round) % KINDS.len(), generator);
@@ -283,10 +199,10 @@ const ALL_POSITIONS: Group = Group {
         for n in 2..=4 {
             for m in 1..n {
                 let sizes = keyed::sizes(n, m);
-                for key in [keyed::right::<Constraints>, solved] {
+                for key in [Constraints::right, solved] {
                     let key = key(sizes, generator);
                     for positions in keyed::all_lists(n, 1 << sizes.d) {
-                        let mut case = keyed::right::<Constraints>(sizes, generator);
+                        let mut case = Constraints::right(sizes, generator);
                         for input in [H, X] {
                             set_words(&mut case, input, key.inputs[input].words());
                         }
@@ -304,7 +220,7 @@ const ALL_MASK_BITS: Group = Group {
     cases: |generator, each| {
         for n in 2..=3 {
             let sizes = keyed::sizes(n, n - 1);
-            let mut case = keyed::right::<Constraints>(sizes, generator);
+            let mut case = Constraints::right(sizes, generator);
             for positions in keyed::all_lists(n, 1 << sizes.d) {
                 for u in keyed::all_lists(sizes.bit_bytes(), 2) {
                     set_bytes(&mut case, POSITIONS, &positions);
@@ -318,7 +234,7 @@ const ALL_MASK_BITS: Group = Group {
 
 /// A case of constraints with the slices of a sample.
 fn constraints_of(sample: &Sample, generator: &mut Generator) -> Case {
-    let mut case = keyed::right::<Constraints>(keyed::sizes(sample.n, sample.m), generator);
+    let mut case = Constraints::right(keyed::sizes(sample.n, sample.m), generator);
     for (input, words) in [(H, &sample.h), (X, &sample.x), (V, &sample.v)] {
         set_words(&mut case, input, words);
     }
@@ -377,12 +293,12 @@ const EXAMPLES: Group = Group {
         for round in 0..20 {
             for (positions, tops) in [([1, 1, 1], [1, 0, 1]), ([0, 1, 3], [0, 0, 1])] {
                 let sizes = keyed::sizes(3, 1 + round % 2);
-                let mut case = keyed::right::<Constraints>(sizes, generator);
+                let mut case = Constraints::right(sizes, generator);
                 set_bytes(&mut case, POSITIONS, &positions);
                 case.stated = Some(stated_tops(0, 2, &tops));
                 each(case);
             }
-            let mut case = keyed::right::<Constraints>(keyed::sizes(3, 1), generator);
+            let mut case = Constraints::right(keyed::sizes(3, 1), generator);
             set_bytes(&mut case, POSITIONS, &[0, 1, 4]);
             case.answer = Some(Refusal::Position.number());
             each(case);
@@ -394,7 +310,7 @@ const EXAMPLES: Group = Group {
 /// and honest numbers at this challenge.
 fn honest(sizes: Sizes, delta: &[u16], generator: &mut Generator) -> Case {
     let Sizes { n, d, .. } = sizes;
-    let mut case = keyed::right::<Values>(sizes, generator);
+    let mut case = Values::right(sizes, generator);
     let positions = keyed::positions_below(n, 1 << d, generator);
     let u = generator.bits(sizes.bit_bytes());
     let v = generator.words(sizes.correlation_words());
@@ -414,7 +330,7 @@ fn honest(sizes: Sizes, delta: &[u16], generator: &mut Generator) -> Case {
 
 /// A case of values with a random key, and any t and q at this challenge.
 fn any_numbers(sizes: Sizes, delta: &[u16], generator: &mut Generator) -> Case {
-    let mut case = keyed::right::<Values>(sizes, generator);
+    let mut case = Values::right(sizes, generator);
     set_words(&mut case, DELTA, delta);
     case
 }
@@ -463,10 +379,10 @@ const VALUES_EXTREMES: Group = Group {
     name: "every n, words all 0 or 2047, bits all 0 or 1",
     cases: |generator, each| {
         for n in keyed::EVERY_N {
-            for (round, [h, x, t, q]) in extremes(n).into_iter().enumerate() {
+            for (round, [h, x, t, q]) in keyed::extremes(n).into_iter().enumerate() {
                 let m = keyed::some_m(n, generator)[(n + 2) % 3];
                 let sizes = keyed::sizes(n, m);
-                let mut case = keyed::right::<Values>(sizes, generator);
+                let mut case = Values::right(sizes, generator);
                 for (input, kind) in [(H, h), (X, x), (Q, q), (DELTA, (n + round) % 3)] {
                     let words = keyed::WORDS[kind](case.inputs[input].len(), generator);
                     set_words(&mut case, input, &words);
@@ -486,9 +402,9 @@ const ALL_T: Group = Group {
             for m in 1..n {
                 let sizes = keyed::sizes(n, m);
                 for _ in 0..6 {
-                    let key = keyed::right::<Values>(sizes, generator);
+                    let key = Values::right(sizes, generator);
                     for t in keyed::all_lists(sizes.bit_bytes(), 2) {
-                        let mut case = keyed::right::<Values>(sizes, generator);
+                        let mut case = Values::right(sizes, generator);
                         for input in [H, X] {
                             set_words(&mut case, input, key.inputs[input].words());
                         }
@@ -505,7 +421,7 @@ const VALUES_EXAMPLES: Group = Group {
     name: "examples of document 01",
     cases: |generator, each| {
         let key_a = Sample::key_a();
-        let mut case = keyed::right::<Values>(keyed::sizes(2, 1), generator);
+        let mut case = Values::right(keyed::sizes(2, 1), generator);
         let Sample { h, x, q, delta, .. } = &key_a;
         for (input, words) in [(H, h), (X, x), (Q, q), (DELTA, delta)] {
             set_words(&mut case, input, words);

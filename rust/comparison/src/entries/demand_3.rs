@@ -9,16 +9,16 @@
 //! field of the reference, and the answer says whether the positions solve the
 //! key, by the positions and the field alone.
 
-use super::keyed::{self, Keyed, Slice};
-use super::DONE;
+use super::keyed::{self, set_bytes, set_words, Keyed, Slice, H, POSITIONS, U, V, X};
+use super::witnesses::{self, Witness};
+use super::{DONE, TOP};
 use crate::case::{Case, Entry, Group};
 use crate::lent::Lent;
 use crate::perk;
-use reference::key::{elements_of_k, rows, Sizes};
+use reference::key::{elements_of_k, rows};
 use reference::large_field::K;
 use reference::polynomial::Polynomial;
-use reference::samples::{honest_q, in_order, Generator, Sample};
-use reference::small_field::F;
+use reference::samples::{honest_q, solves, Generator};
 use reference::Refusal;
 
 /// The slices.
@@ -33,11 +33,8 @@ impl Keyed for BothFacts {
         Slice::CORRELATIONS,
         Slice::DELTA,
     ];
-    const OUTPUTS: &'static [Slice] = &[Slice::VALUES, Slice::BITS, Slice::POLYNOMIALS];
+    const OUTPUTS: &'static [Slice] = &[Slice::WEIGHTS, Slice::BITS, Slice::POLYNOMIALS];
 }
-
-/// 8: "some top coefficient of the n + m polynomials isn't zero".
-const TOP: u32 = 8;
 
 /// Added to a refusal of constraints or values, which no case here has.
 const REFUSED: u32 = 100;
@@ -55,12 +52,7 @@ pub const BOTH_FACTS: Entry = Entry {
     groups: &[ALL_POSITIONS, SOLVING, OTHERS],
 };
 
-// The inputs.
-const H: usize = 0;
-const X: usize = 1;
-const POSITIONS: usize = 2;
-const U: usize = 3;
-const V: usize = 4;
+/// The challenge, after the inputs of constraints.
 const DELTA: usize = 5;
 
 /// Calls constraints of the library, and gives the polynomials that it wrote.
@@ -120,22 +112,6 @@ fn values_and_tops(numbers: &[usize], inputs: &[Lent], outputs: &mut [Lent]) -> 
     }
 }
 
-/// Whether the positions are the numbers 0 to n - 1, each once, and H times x
-/// in that order is zero.
-fn solves(n: usize, h: &[u16], x: &[u16], positions: &[u8]) -> bool {
-    let mut sorted = positions.to_vec();
-    sorted.sort_unstable();
-    if !sorted.into_iter().map(usize::from).eq(0..n) {
-        return false;
-    }
-    let element = |word: &u16| F::from_word(*word).expect("a word up to 2047");
-    let entries: Vec<F> = in_order(x, positions).iter().map(element).collect();
-    h.chunks(n).all(|row| {
-        let products = row.iter().map(element).zip(&entries);
-        products.fold(F::ZERO, |sum, (h, &entry)| sum + h * entry) == F::ZERO
-    })
-}
-
 /// The other side: the library's polynomials at Δ, and the answer by the
 /// positions and the key.
 fn polynomials_at_delta(numbers: &[usize], inputs: &[Lent], outputs: &mut [Lent]) -> u32 {
@@ -159,47 +135,31 @@ fn polynomials_at_delta(numbers: &[usize], inputs: &[Lent], outputs: &mut [Lent]
     }
 }
 
-/// A case with the key of a sample and these positions. One in four of u, v and
+/// A case with the key of a sample and its positions. One in four of u, v and
 /// Δ is all 0, and one in four of the largest value or, for Δ, one.
-fn case(sample: &Sample, positions: &[u8], answer: Option<u32>, generator: &mut Generator) -> Case {
+fn case((sample, answer): Witness, generator: &mut Generator) -> Case {
     let sizes = keyed::sizes(sample.n, sample.m);
-    let mut case = keyed::right::<BothFacts>(sizes, generator);
+    let mut case = keyed::of_sizes::<BothFacts>(sizes, generator);
     let [u, v, delta] = [(); 3].map(|()| [0, 0, 1, 2][generator.below(4)]);
     let u = keyed::BITS[u](sizes.bit_bytes(), generator);
     let v = keyed::WORDS[v](sizes.correlation_words(), generator);
     let delta = keyed::CHALLENGES[delta](generator);
-    for (input, bytes) in [(POSITIONS, positions), (U, &u[..])] {
-        case.inputs[input].bytes_mut().copy_from_slice(bytes);
+    for (input, bytes) in [(POSITIONS, &sample.positions), (U, &u)] {
+        set_bytes(&mut case, input, bytes);
     }
     for (input, words) in [(H, &sample.h), (X, &sample.x), (V, &v), (DELTA, &delta)] {
-        case.inputs[input].words_mut().copy_from_slice(words);
+        set_words(&mut case, input, words);
     }
     Case { answer, ..case }
-}
-
-/// A key that every order solves: equal entries of x, and rows of sum zero.
-fn solved_by_all(Sizes { n, m, .. }: Sizes, generator: &mut Generator) -> Sample {
-    let mut sample = Sample::solving(n, m, generator);
-    sample.x = vec![generator.word() | 1; n];
-    for row in sample.h.chunks_mut(n) {
-        row[0] = row[1..].iter().fold(0, |sum, word| sum ^ word);
-    }
-    sample
 }
 
 const SOLVING: Group = Group {
     name: "every n, orders that solve the key",
     cases: |generator, each| {
         for n in keyed::EVERY_N {
-            for (round, m) in keyed::some_m(n, generator).into_iter().enumerate() {
-                if n <= keyed::ALL_VARIANTS || round == n % 3 {
-                    let sample = Sample::solving(n, m, generator);
-                    each(case(&sample, &sample.positions, Some(DONE), generator));
-                }
+            for witness in witnesses::solving(n, generator) {
+                each(case(witness, generator));
             }
-            let m = 1 + generator.below(n - 1);
-            let sample = solved_by_all(keyed::sizes(n, m), generator);
-            each(case(&sample, &generator.order(n), Some(DONE), generator));
         }
     },
 };
@@ -208,33 +168,8 @@ const OTHERS: Group = Group {
     name: "every n, other positions",
     cases: |generator, each| {
         for n in keyed::EVERY_N {
-            let m = keyed::some_m(n, generator)[n % 3];
-            let sizes = keyed::sizes(n, m);
-            let sample = Sample::solving(n, m, generator);
-            let solved = solved_by_all(sizes, generator);
-            let from = generator.below(n);
-            let to = (from + 1 + generator.below(n - 1)) % n;
-            let [mut exchanged, mut twice, mut spare] = [(); 3].map(|()| sample.positions.clone());
-            exchanged.swap(from, to);
-            twice[to] = twice[from];
-            let alone = vec![twice[to]; n];
-            let mut list = vec![
-                // The exchanged positions solve the key only by chance.
-                (&sample, &exchanged, None),
-                (&sample, &twice, Some(TOP)),
-                (&solved, &twice, Some(TOP)),
-                (&solved, &alone, Some(TOP)),
-            ];
-            let spare_codes = (1 << sizes.d) - n;
-            if spare_codes > 0 {
-                spare[to] = (n + generator.below(spare_codes)) as u8;
-                list.push((&sample, &spare, Some(TOP)));
-                list.push((&solved, &spare, Some(TOP)));
-            }
-            for (index, (sample, positions, answer)) in list.into_iter().enumerate() {
-                if n <= keyed::ALL_VARIANTS || index % 2 == n % 2 {
-                    each(case(sample, positions, answer, generator));
-                }
+            for witness in witnesses::others(n, generator) {
+                each(case(witness, generator));
             }
         }
     },
@@ -245,19 +180,8 @@ const ALL_POSITIONS: Group = Group {
     cases: |generator, each| {
         for n in 2..=4 {
             for m in 1..n {
-                let sizes = keyed::sizes(n, m);
-                let mut zero = Sample::solving(n, m, generator);
-                zero.h.fill(0);
-                let keys = [
-                    Sample::solving(n, m, generator),
-                    Sample::solving(n, m, generator),
-                    solved_by_all(sizes, generator),
-                    zero,
-                ];
-                for sample in keys {
-                    for positions in keyed::all_lists(n, 1 << sizes.d) {
-                        each(case(&sample, &positions, None, generator));
-                    }
+                for witness in witnesses::all_positions(n, m, generator) {
+                    each(case(witness, generator));
                 }
             }
         }

@@ -53,8 +53,12 @@ impl Slice {
     pub const DELTA: Slice = slice(Elements::Coordinates, Sizes::delta_words);
     /// The n + m polynomials.
     pub const POLYNOMIALS: Slice = slice(Elements::Coordinates, Sizes::polynomial_words);
-    /// The n + m values.
-    pub const VALUES: Slice = slice(Elements::Coordinates, Sizes::weight_words);
+    /// The n + m weights α, or the n + m values.
+    pub const WEIGHTS: Slice = slice(Elements::Coordinates, Sizes::weight_words);
+    /// The mask offsets r, the mask factors s, or the mask numbers.
+    pub const MASKS: Slice = slice(Elements::Coordinates, Sizes::mask_words);
+    /// The proof a.
+    pub const PROOF: Slice = slice(Elements::Coordinates, Sizes::proof_words);
 
     /// A slice with random elements that no refusal applies to.
     fn random(self, len: usize, d: usize, generator: &mut Generator) -> Lent {
@@ -86,12 +90,55 @@ impl Slice {
     }
 }
 
+// The first inputs of each entry, by their index.
+
+/// H.
+pub const H: usize = 0;
+/// The vector x.
+pub const X: usize = 1;
+
+// The next inputs of the prover's entries.
+
+/// The positions.
+pub const POSITIONS: usize = 2;
+/// The mask bits.
+pub const U: usize = 3;
+/// The offsets.
+pub const V: usize = 4;
+
+// The next inputs of the verifier's entries.
+
+/// The masked witness.
+pub const T: usize = 2;
+/// The numbers q.
+pub const Q: usize = 3;
+/// The challenge.
+pub const DELTA: usize = 4;
+
+/// Sets the bytes of an input.
+pub fn set_bytes(case: &mut Case, input: usize, bytes: &[u8]) {
+    case.inputs[input].bytes_mut().copy_from_slice(bytes);
+}
+
+/// Sets the words of an input.
+pub fn set_words(case: &mut Case, input: usize, words: &[u16]) {
+    case.inputs[input].words_mut().copy_from_slice(words);
+}
+
 /// An entry that takes n and m, then slices, H and x first.
-pub trait Keyed {
+pub trait Keyed: Sized {
     /// The slices that it reads.
     const INPUTS: &'static [Slice];
     /// The slices that it writes.
     const OUTPUTS: &'static [Slice];
+
+    /// A random case that none of refusals 1 to 7 applies to.
+    fn right(sizes: Sizes, generator: &mut Generator) -> Case {
+        Case {
+            answer: Some(DONE),
+            ..of_sizes::<Self>(sizes, generator)
+        }
+    }
 
     /// All slices, outputs after inputs.
     fn slices() -> Vec<Slice> {
@@ -157,9 +204,20 @@ pub const BITS: [fn(usize, &mut Generator) -> Vec<u8>; 3] = [
     |len, _| vec![1; len],
 ];
 
+/// The extremes that are tried for n: all 81 combinations of four slices, each
+/// random, all 0, or of the largest value; from 8 on one combination.
+pub fn extremes(n: usize) -> Vec<[usize; 4]> {
+    let combination = |c: usize| [c % 3, c / 3 % 3, c / 9 % 3, c / 27];
+    match n {
+        2..=7 => (0..81).map(combination).collect(),
+        // 1 to 80: not all random
+        _ => vec![combination(1 + 7 * n % 80)],
+    }
+}
+
 /// A case with slices of the lengths of these sizes and random content, which
 /// neither 3 nor a higher number applies to.
-fn of_sizes<E: Keyed>(sizes: Sizes, generator: &mut Generator) -> Case {
+pub fn of_sizes<E: Keyed>(sizes: Sizes, generator: &mut Generator) -> Case {
     let Sizes { n, m, d } = sizes;
     let input = |slice: &Slice| slice.random((slice.length)(sizes), d, generator);
     let inputs = E::INPUTS.iter().map(input).collect();
@@ -171,14 +229,6 @@ fn of_sizes<E: Keyed>(sizes: Sizes, generator: &mut Generator) -> Case {
         outputs,
         answer: None,
         stated: None,
-    }
-}
-
-/// A random case that isn't refused.
-pub fn right<E: Keyed>(sizes: Sizes, generator: &mut Generator) -> Case {
-    Case {
-        answer: Some(DONE),
-        ..of_sizes::<E>(sizes, generator)
     }
 }
 
@@ -239,7 +289,8 @@ impl Fault {
     }
 }
 
-/// The case with these faults; the lowest of their numbers is the answer.
+/// The case with these faults; the lowest of their numbers is the answer. With
+/// no fault the answer stays.
 fn with_faults<E: Keyed>(
     case: &Case,
     d: usize,
@@ -252,8 +303,9 @@ fn with_faults<E: Keyed>(
     for fault in &faults {
         fault.apply::<E>(&mut case, d, generator);
     }
-    let first = faults.first().map(|fault| fault.refusal::<E>().number());
-    case.answer = Some(first.unwrap_or(DONE));
+    if let Some(first) = faults.first() {
+        case.answer = Some(first.refusal::<E>().number());
+    }
     case
 }
 
@@ -380,7 +432,7 @@ pub const fn one_fault<E: Keyed>() -> Group {
         cases: |generator, each| {
             for (n, m) in TRIED {
                 let sizes = sizes(n, m);
-                let case = right::<E>(sizes, generator);
+                let case = E::right(sizes, generator);
                 for fault in faults::<E>(sizes, true, generator) {
                     each(with_faults::<E>(&case, sizes.d, &[fault], generator));
                 }
@@ -396,7 +448,7 @@ pub const fn every_place<E: Keyed>() -> Group {
         cases: |generator, each| {
             for (n, m) in [(2, 1), (5, 3), (33, 7)] {
                 let sizes = sizes(n, m);
-                let case = right::<E>(sizes, generator);
+                let case = E::right(sizes, generator);
                 for (index, slice) in E::INPUTS.iter().enumerate() {
                     let values = values_above(slice.elements, sizes.d, true);
                     for place in 0..(slice.length)(sizes) {
@@ -445,7 +497,7 @@ pub const fn other_lengths<E: Keyed>() -> Group {
         cases: |generator, each| {
             for (n, m) in TRIED {
                 let sizes = sizes(n, m);
-                let case = right::<E>(sizes, generator);
+                let case = E::right(sizes, generator);
                 let slices = E::slices();
                 for (index, slice) in slices.iter().enumerate() {
                     let len = (slice.length)(sizes);
@@ -497,16 +549,20 @@ pub const fn empty_slices<E: Keyed>() -> Group {
         name: "empty slices",
         cases: |generator, each| {
             for (n, m) in [(2, 1), (5, 2)] {
-                let right = right::<E>(sizes(n, m), generator);
+                let sizes = sizes(n, m);
+                let right = E::right(sizes, generator);
                 let slices = E::slices();
                 for set in 1..1 << slices.len() {
                     let mut case = right.clone();
                     for (index, slice) in slices.iter().enumerate() {
                         if set >> index & 1 == 1 {
                             *slice_of(&mut case, index) = slice.dangling();
+                            // With one digit the mask slices are empty.
+                            if (slice.length)(sizes) > 0 {
+                                case.answer = Some(Refusal::SliceLength.number());
+                            }
                         }
                     }
-                    case.answer = Some(Refusal::SliceLength.number());
                     each(case);
                 }
             }
@@ -522,7 +578,7 @@ pub const fn two_faults<E: Keyed>() -> Group {
         cases: |generator, each| {
             for (n, m) in [(2, 1), (5, 2), (64, 27)] {
                 let sizes = sizes(n, m);
-                let case = right::<E>(sizes, generator);
+                let case = E::right(sizes, generator);
                 let list = faults::<E>(sizes, false, generator);
                 for early in &list {
                     for late in &list {
@@ -551,7 +607,11 @@ pub const fn random_faults<E: Keyed>() -> Group {
                 let faults: Vec<Fault> = (0..count)
                     .map(|_| list[generator.below(list.len())])
                     .collect();
-                let case = right::<E>(sizes, generator);
+                let case = if faults.is_empty() {
+                    E::right(sizes, generator)
+                } else {
+                    of_sizes::<E>(sizes, generator)
+                };
                 each(with_faults::<E>(&case, sizes.d, &faults, generator));
             }
         },

@@ -267,3 +267,46 @@ fn numbers_of_the_refusals() {
         assert_eq!(refusal.number() as usize, index + 1);
     }
 }
+
+/// The lines of `examples_run` that document 01 states.
+#[test]
+fn text_of_examples_run() {
+    let text = reference::examples::text();
+    let mut lines = text.lines();
+    for line in [
+        "1024 times 2: done 5",
+        "1024 times 1024: done 517",
+        "2047 times 2: done 2043",
+        "Y^11 times Y: done 1+1Y^3",
+        "Y^11 times Y^11: done 0+1Y^1+1Y^4+1Y^10",
+        "key A, positions 0 1, constraints: done, t 1 1, polynomials 5 0 5 0 10 0, tops 0 0 0",
+        "key A, positions 0 1, prove: done, t 1 1, a 5",
+        "key A, values: done 5 5 10",
+        "key A, a = 5, verify: accepted",
+        "key A, a = 4, verify: rejected",
+    ] {
+        assert_eq!(lines.next(), Some(line));
+    }
+    for (start, end) in [
+        ("n = 3, positions 1 1 1, constraints: done", "tops 1 0 1 1"),
+        ("n = 3, positions 1 1 1, prove:", " refused 8"),
+        ("n = 3, positions 0 1 3, constraints: done", "tops 0 0 1 0"),
+        ("n = 3, positions 0 1 3, prove:", " refused 8"),
+        ("key A, positions 1 0, constraints: done", "tops 0 0 5"),
+        ("key A, positions 1 0, prove:", " refused 8"),
+        ("n = 3, positions 0 1 4, constraints:", " refused 7"),
+        ("n = 3, positions 0 1 4, prove:", " refused 7"),
+        ("n = 1, m = 1: constraints refused 1", "verify refused 1"),
+        ("n = 65, m = 1: constraints refused 1", "verify refused 1"),
+        ("n = 2, m = 1: constraints done", "verify accepted"),
+        ("n = 2, m = 2: constraints refused 2", "verify refused 2"),
+        ("2047 times 1:", " done 2047"),
+        ("2048 times 1:", " refused 6"),
+    ] {
+        let line = lines.next().expect("a line for each example");
+        assert!(line.starts_with(start) && line.ends_with(end), "{line}");
+    }
+    let last = "n = 64, m = 63: constraints done, prove done, values done, verify accepted";
+    assert_eq!(lines.last(), Some(last));
+    assert!(text.ends_with('\n'));
+}

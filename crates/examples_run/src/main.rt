@@ -1,0 +1,518 @@
+// Prints what the entries answer and write for the examples of document 01 and for its edges, a line each.
+// An element of K is printed as its coordinate 0, then each other coordinate c that is not zero as +cY^i.
+ghost use Prim.Native.Nat.{_<_};
+use key::Key;
+use refusal::Answer;
+use refusal::Verdict;
+
+fn text(s: &[u8]) {
+    io::write_all(1, s);
+}
+
+fn number(n: u64) {
+    io::print_decimal(1, n);
+}
+
+fn byte(b: u8) {
+    text(b" ");
+    number(b as u64);
+}
+
+// Numbers, each after a space.
+fn bytes(s: &[u8]) {
+    for i in 0..s.len() {
+        byte(s[i]);
+    }
+}
+
+// Word i of a slice of elements, if the number of its element is step - 1 modulo step.
+fn coordinate(word: u16, i: usize, step: usize)
+    requires { ⌜ 0 < step ⌝ }
+{
+    if (i / 12) % step != step - 1 {
+        return;
+    }
+    let power = i % 12;
+    if power == 0 {
+        text(b" ");
+        number(word as u64);
+    } else if word != 0 {
+        text(b"+");
+        number(word as u64);
+        text(b"Y^");
+        number(power as u64);
+    }
+}
+
+// Elements, each after a space: all of them for step 1, and for d + 1 the tops.
+fn elements(s: &[u16], step: usize)
+    requires { ⌜ 0 < step ⌝ }
+{
+    for i in 0..s.len() {
+        coordinate(s[i], i, step);
+    }
+}
+
+// Whether the answer is Done.
+fn done(answer: Answer) -> bool {
+    match answer {
+        Answer::Done => {
+            text(b" done");
+            true
+        }
+        Answer::Refused(refusal) => {
+            text(b" refused ");
+            number(refusal.number as u64);
+            false
+        }
+    }
+}
+
+fn judged(verdict: Verdict) {
+    match verdict {
+        Verdict::Accepted => text(b" accepted"),
+        Verdict::Rejected => text(b" rejected"),
+        Verdict::Refused(refusal) => {
+            text(b" refused ");
+            number(refusal.number as u64);
+        }
+    }
+}
+
+fn element(word: u16) -> [u16; 12] {
+    let mut e = [0u16; 12];
+    e[0] = word;
+    e
+}
+
+// What product answers and writes.
+fn product(name: &[u8], a: &[u16], b: &[u16]) {
+    let mut out = [0u16; 12];
+    text(name);
+    text(b":");
+    if done(field::product(a, b, &mut out)) {
+        elements(&out, 1);
+    }
+    text(b"\n");
+}
+
+// What constraints answers and writes; d + 1 is step.
+fn constrained(
+    key: Key,
+    h: &[u16],
+    x: &[u16],
+    positions: &[u8],
+    u: &[u8],
+    v: &[u16],
+    t: &mut [u8],
+    polynomials: &mut [u16],
+    step: usize,
+)
+    requires { ⌜ 0 < step ⌝ }
+{
+    if done(constraints::constraints(key, h, x, positions, u, v, t, polynomials)) {
+        text(b", t");
+        bytes(t);
+        text(b", polynomials");
+        elements(polynomials, 1);
+        text(b", tops");
+        elements(polynomials, step);
+    }
+    text(b"\n");
+}
+
+// What prove answers and writes.
+fn proved(
+    key: Key,
+    h: &[u16],
+    x: &[u16],
+    positions: &[u8],
+    u: &[u8],
+    v: &[u16],
+    r: &[u16],
+    s: &[u16],
+    alpha: &[u16],
+    t: &mut [u8],
+    a: &mut [u16],
+) {
+    if done(prover::prove(key, h, x, positions, u, v, r, s, alpha, t, a)) {
+        text(b", t");
+        bytes(t);
+        text(b", a");
+        elements(a, 1);
+    }
+    text(b"\n");
+}
+
+fn two(first: u16, second: u16) -> [u16; 24] {
+    let mut s = [0u16; 24];
+    s[0] = first;
+    s[12] = second;
+    s
+}
+
+// Key A: the weights are 1, 2, 1, the first of them as given.
+fn weights_a(first: u16) -> [u16; 36] {
+    let mut alpha = [0u16; 36];
+    alpha[0] = first;
+    alpha[12] = 2;
+    alpha[24] = 1;
+    alpha
+}
+
+// Key A with these positions, by constraints and by prove.
+fn key_a(positions: &[u8], none: &[u16]) {
+    let key = Key { n: 2, m: 1 };
+    let h = [2u16, 1];
+    let x = [1u16, 2];
+    let u = [1u8, 0];
+    let v = two(1, 4);
+    let alpha = weights_a(1);
+    let mut t = [0u8; 2];
+    let mut polynomials = [0u16; 72];
+    let mut a = [0u16; 12];
+    text(b"key A, positions");
+    bytes(positions);
+    text(b", constraints:");
+    constrained(key, &h, &x, positions, &u, &v, &mut t, &mut polynomials, 2);
+    text(b"key A, positions");
+    bytes(positions);
+    text(b", prove:");
+    proved(
+        key,
+        &h,
+        &x,
+        positions,
+        &u,
+        &v,
+        none,
+        none,
+        &alpha,
+        &mut t,
+        &mut a,
+    );
+}
+
+// Key A with t = 1 1, by values.
+fn values_a() {
+    let key = Key { n: 2, m: 1 };
+    let h = [2u16, 1];
+    let x = [1u16, 2];
+    let t = [1u8, 1];
+    let q = two(3, 4);
+    let delta = element(2);
+    let mut values = [0u16; 36];
+    text(b"key A, values:");
+    if done(constraints::values(key, &h, &x, &t, &q, &delta, &mut values)) {
+        elements(&values, 1);
+    }
+    text(b"\n");
+}
+
+// Key A with t = 1 1 and this a, by verify.
+fn verify_a(a: &[u16], none: &[u16]) {
+    let key = Key { n: 2, m: 1 };
+    let h = [2u16, 1];
+    let x = [1u16, 2];
+    let t = [1u8, 1];
+    let q = two(3, 4);
+    let delta = element(2);
+    let alpha = weights_a(1);
+    text(b"key A, a =");
+    elements(a, 1);
+    text(b", verify:");
+    judged(verifier::verify(key, &h, &x, &t, &q, &delta, none, &alpha, a));
+    text(b"\n");
+}
+
+// n = 3 with these positions, by constraints and by prove; m = 1, H = 1 0 0, x = 0 1 2.
+fn three(positions: &[u8]) {
+    let key = Key { n: 3, m: 1 };
+    let h = [1u16, 0, 0];
+    let x = [0u16, 1, 2];
+    let u = [0u8; 6];
+    let mut v = [0u16; 72];
+    v[0] = 1;
+    v[12] = 2;
+    v[24] = 3;
+    v[36] = 4;
+    v[48] = 5;
+    v[60] = 6;
+    let r = element(7);
+    let s = element(8);
+    let mut alpha = [0u16; 48];
+    alpha[0] = 1;
+    alpha[12] = 2;
+    alpha[24] = 3;
+    alpha[36] = 4;
+    let mut t = [0u8; 6];
+    let mut polynomials = [0u16; 144];
+    let mut a = [0u16; 24];
+    text(b"n = 3, positions");
+    bytes(positions);
+    text(b", constraints:");
+    constrained(key, &h, &x, positions, &u, &v, &mut t, &mut polynomials, 3);
+    text(b"n = 3, positions");
+    bytes(positions);
+    text(b", prove:");
+    proved(
+        key,
+        &h,
+        &x,
+        positions,
+        &u,
+        &v,
+        &r,
+        &s,
+        &alpha,
+        &mut t,
+        &mut a,
+    );
+}
+
+// The answers of constraints and prove to one key, with masks as r and s.
+fn prover_entries(
+    key: Key,
+    h: &[u16],
+    x: &[u16],
+    positions: &[u8],
+    u: &[u8],
+    v: &[u16],
+    masks: &[u16],
+    alpha: &[u16],
+    t: &mut [u8],
+    polynomials: &mut [u16],
+    proof: &mut [u16],
+) {
+    text(b": constraints");
+    done(constraints::constraints(key, h, x, positions, u, v, t, polynomials));
+    text(b", prove");
+    done(prover::prove(key, h, x, positions, u, v, masks, masks, alpha, t, proof));
+}
+
+// The answers of values and verify to one key.
+fn verifier_entries(
+    key: Key,
+    h: &[u16],
+    x: &[u16],
+    t: &[u8],
+    q: &[u16],
+    delta: &[u16],
+    masks: &[u16],
+    alpha: &[u16],
+    a: &[u16],
+    values: &mut [u16],
+) {
+    text(b", values");
+    done(constraints::values(key, h, x, t, q, delta, values));
+    text(b", verify");
+    judged(verifier::verify(key, h, x, t, q, delta, masks, alpha, a));
+    text(b"\n");
+}
+
+// Key A with other sizes, or with another first word in H, x, v, q, the challenge, the weights or a.
+fn edge(
+    name: &[u8],
+    none: &[u16],
+    n: usize,
+    m: usize,
+    h: u16,
+    x: u16,
+    v: u16,
+    q: u16,
+    delta: u16,
+    alpha: u16,
+    a: u16,
+) {
+    let mut t = [0u8; 2];
+    let mut polynomials = [0u16; 72];
+    let mut values = [0u16; 36];
+    let mut proof = [0u16; 12];
+    let key = Key { n, m };
+    let matrix = [h, 1];
+    let vector = [x, 2];
+    let weights = weights_a(alpha);
+    text(name);
+    prover_entries(
+        key,
+        &matrix,
+        &vector,
+        &[0u8, 1],
+        &[1u8, 0],
+        &two(v, 4),
+        none,
+        &weights,
+        &mut t,
+        &mut polynomials,
+        &mut proof,
+    );
+    verifier_entries(
+        key,
+        &matrix,
+        &vector,
+        &[1u8, 1],
+        &two(q, 4),
+        &element(delta),
+        none,
+        &weights,
+        &element(a),
+        &mut values,
+    );
+}
+
+// 2047 and 2048 in each slice of key A.
+fn limits(none: &[u16]) {
+    edge(b"H 2047", none, 2, 1, 2047, 1, 1, 3, 2, 1, 5);
+    edge(b"H 2048", none, 2, 1, 2048, 1, 1, 3, 2, 1, 5);
+    edge(b"x 2047", none, 2, 1, 2, 2047, 1, 3, 2, 1, 5);
+    edge(b"x 2048", none, 2, 1, 2, 2048, 1, 3, 2, 1, 5);
+    edge(b"v 2047", none, 2, 1, 2, 1, 2047, 3, 2, 1, 5);
+    edge(b"v 2048", none, 2, 1, 2, 1, 2048, 3, 2, 1, 5);
+    edge(b"q 2047", none, 2, 1, 2, 1, 1, 2047, 2, 1, 5);
+    edge(b"q 2048", none, 2, 1, 2, 1, 1, 2048, 2, 1, 5);
+    edge(b"challenge 2047", none, 2, 1, 2, 1, 1, 3, 2047, 1, 5);
+    edge(b"challenge 2048", none, 2, 1, 2, 1, 1, 3, 2048, 1, 5);
+    edge(b"weights 2047", none, 2, 1, 2, 1, 1, 3, 2, 2047, 5);
+    edge(b"weights 2048", none, 2, 1, 2, 1, 1, 3, 2, 2048, 5);
+    edge(b"a 2047", none, 2, 1, 2, 1, 1, 3, 2, 1, 2047);
+    edge(b"a 2048", none, 2, 1, 2, 1, 1, 3, 2, 1, 2048);
+}
+
+// n = 64, m = 63: H, x and u are zero, positions 0 to 63, and v and the weights have two words that are not zero.
+fn largest() {
+    let positions = [
+        0u8,
+        1,
+        2,
+        3,
+        4,
+        5,
+        6,
+        7,
+        8,
+        9,
+        10,
+        11,
+        12,
+        13,
+        14,
+        15,
+        16,
+        17,
+        18,
+        19,
+        20,
+        21,
+        22,
+        23,
+        24,
+        25,
+        26,
+        27,
+        28,
+        29,
+        30,
+        31,
+        32,
+        33,
+        34,
+        35,
+        36,
+        37,
+        38,
+        39,
+        40,
+        41,
+        42,
+        43,
+        44,
+        45,
+        46,
+        47,
+        48,
+        49,
+        50,
+        51,
+        52,
+        53,
+        54,
+        55,
+        56,
+        57,
+        58,
+        59,
+        60,
+        61,
+        62,
+        63,
+    ];
+    let mut v = [0u16; 4608];
+    v[0] = 1;
+    v[4596] = 2;
+    let mut alpha = [0u16; 1524];
+    alpha[0] = 1;
+    alpha[1512] = 2;
+    let mut t = [0u8; 384];
+    let mut polynomials = [0u16; 10668];
+    let mut values = [0u16; 1524];
+    let mut proof = [0u16; 72];
+    let key = Key { n: 64, m: 63 };
+    let h = [0u16; 4032];
+    let x = [0u16; 64];
+    let masks = [0u16; 60];
+    text(b"n = 64, m = 63");
+    prover_entries(
+        key,
+        &h,
+        &x,
+        &positions,
+        &[0u8; 384],
+        &v,
+        &masks,
+        &alpha,
+        &mut t,
+        &mut polynomials,
+        &mut proof,
+    );
+    verifier_entries(
+        key,
+        &h,
+        &x,
+        &t,
+        &v,
+        &element(2),
+        &masks,
+        &alpha,
+        &proof,
+        &mut values,
+    );
+}
+
+fn main() {
+    let none = [0u16; 0];
+    let mut y = [0u16; 12];
+    y[1] = 1;
+    let mut y11 = [0u16; 12];
+    y11[11] = 1;
+    product(b"1024 times 2", &element(1024), &element(2));
+    product(b"1024 times 1024", &element(1024), &element(1024));
+    product(b"2047 times 2", &element(2047), &element(2));
+    product(b"Y^11 times Y", &y11, &y);
+    product(b"Y^11 times Y^11", &y11, &y11);
+    key_a(&[0u8, 1], &none);
+    values_a();
+    verify_a(&element(5), &none);
+    verify_a(&element(4), &none);
+    three(&[1u8, 1, 1]);
+    three(&[0u8, 1, 3]);
+    key_a(&[1u8, 0], &none);
+    three(&[0u8, 1, 4]);
+    edge(b"n = 1, m = 1", &none, 1, 1, 2, 1, 1, 3, 2, 1, 5);
+    edge(b"n = 65, m = 1", &none, 65, 1, 2, 1, 1, 3, 2, 1, 5);
+    edge(b"n = 2, m = 1", &none, 2, 1, 2, 1, 1, 3, 2, 1, 5);
+    edge(b"n = 2, m = 2", &none, 2, 2, 2, 1, 1, 3, 2, 1, 5);
+    product(b"2047 times 1", &element(2047), &element(1));
+    product(b"2048 times 1", &element(2048), &element(1));
+    limits(&none);
+    largest();
+}

@@ -1,0 +1,105 @@
+/*
+ * Calls perk_constraints or perk_prove with secret slices marked as undefined for valgrind's memcheck, which then reports each
+ * jump and each address that depends on them. The key, the positions and the other numbers are made from a fixed seed; the
+ * positions solve the key, so that no refusal applies unless a fault is asked for. Prints the result.
+ *
+ * usage: secrets ENTRY N M SLICE CASE
+ *   ENTRY  constraints or prove
+ *   SLICE  positions, u, v, r or s: the one that is marked; or all
+ *   CASE   plain; fault: the last element of the slice is too large; order: the positions do not solve the key;
+ *          jump or index: before the call, a jump or an address that depends on the first byte of the slice
+ */
+#include <stdint.h>
+#include <stdio.h>
+#include <stdlib.h>
+#include <string.h>
+#include <valgrind/memcheck.h>
+#include "perk.h"
+
+enum { N = 64, D = 6, W = 12 };
+
+static uint16_t h[(N - 1) * N], x[N], v[W * N * D], r[W * D], s[W * D], alpha[W * 2 * N];
+static uint16_t a[W * D], polynomials[W * 2 * N * (D + 1)];
+static uint8_t positions[N], u[N * D], t[N * D];
+static uint32_t state = 2463534242u;
+static volatile unsigned sink;
+static const uint8_t table[256] = {1};
+
+static unsigned below(unsigned limit) {
+    state ^= state << 13;
+    state ^= state >> 17;
+    state ^= state << 5;
+    return state % limit;
+}
+
+static void fill(uint16_t *words, size_t count) {
+    for (size_t i = 0; i < count; i++) words[i] = (uint16_t)below(2048);
+}
+
+/* x has one value and each row of H the sum zero: every order solves the key */
+static void make_key(size_t n, size_t m) {
+    fill(h, m * n);
+    for (size_t e = 0; e < m; e++) {
+        uint16_t sum = 0;
+        for (size_t i = 0; i + 1 < n; i++) sum ^= h[e * n + i];
+        h[e * n + n - 1] = sum;
+    }
+    uint16_t value = (uint16_t)(1 + below(2047));
+    for (size_t i = 0; i < n; i++) x[i] = value;
+}
+
+static void make_order(size_t n) {
+    for (size_t i = 0; i < n; i++) positions[i] = (uint8_t)i;
+    for (size_t i = n - 1; i > 0; i--) {
+        size_t j = below((unsigned)i + 1);
+        uint8_t other = positions[i];
+        positions[i] = positions[j];
+        positions[j] = other;
+    }
+}
+
+int main(int argc, char **argv) {
+    if (argc != 6) return 2;
+    const char *entry = argv[1], *slice = argv[4], *kind = argv[5];
+    size_t n = (size_t)atoi(argv[2]), m = (size_t)atoi(argv[3]), d = 0;
+    if (n < 2 || n > N || m < 1 || m >= n) return 2;
+    while (((n - 1) >> d) != 0) d++;
+    size_t bits = n * d, masks = W * (d - 1), weights = W * (n + m);
+    make_key(n, m);
+    make_order(n);
+    for (size_t i = 0; i < bits; i++) u[i] = (uint8_t)below(2);
+    fill(v, W * bits);
+    fill(r, masks);
+    fill(s, masks);
+    fill(alpha, weights);
+
+    if (strcmp(kind, "order") == 0) positions[0] = positions[1];
+    struct { const char *name; uint8_t *start; size_t size; } secrets[] = {{"positions", positions, n},
+                                                                           {"u", u, bits},
+                                                                           {"v", (uint8_t *)v, 2 * W * bits},
+                                                                           {"r", (uint8_t *)r, 2 * masks},
+                                                                           {"s", (uint8_t *)s, 2 * masks}};
+    const uint8_t *first = NULL;
+    for (size_t i = 0; i < sizeof secrets / sizeof *secrets; i++) {
+        if (strcmp(slice, "all") != 0 && strcmp(slice, secrets[i].name) != 0) continue;
+        if (secrets[i].size == 0) continue;
+        /* the last byte is the high one of a word: 8 makes it at least 2048 */
+        if (strcmp(kind, "fault") == 0) secrets[i].start[secrets[i].size - 1] |= i == 0 ? 0x80 : i == 1 ? 0x02 : 0x08;
+        VALGRIND_MAKE_MEM_UNDEFINED(secrets[i].start, secrets[i].size);
+        first = secrets[i].start;
+    }
+    if (first == NULL) return 2;
+    if (strcmp(kind, "jump") == 0 && *first) sink = sink + 1;
+    if (strcmp(kind, "index") == 0) sink = sink + table[*first];
+
+    uint32_t result = 255;
+    if (strcmp(entry, "constraints") == 0)
+        result = perk_constraints(n, m, h, m * n, x, n, positions, n, u, bits, v, W * bits, t, bits, polynomials,
+                                  W * (n + m) * (d + 1));
+    if (strcmp(entry, "prove") == 0)
+        result = perk_prove(n, m, h, m * n, x, n, positions, n, u, bits, v, W * bits, r, masks, s, masks, alpha, weights, t,
+                            bits, a, W * d);
+    VALGRIND_MAKE_MEM_DEFINED(&result, sizeof result);
+    printf("%u\n", (unsigned)result);
+    return 0;
+}

@@ -5,7 +5,8 @@
  * nothing else, to end, and to answer as stated here for every content and every length of its slices.
  *
  * What the caller owes, as in any C interface: a pointer and its length name memory that is the caller's, aligned
- * for its type, and no output overlaps another slice of the call. Two inputs may be the same memory.
+ * for its type, and no output overlaps another slice of the call. Two inputs may be the same memory. A pointer whose
+ * length is 0 is never read, and may be NULL.
  *
  * Results: 0 is done, or accepted; 255 is rejected, which is no refusal; any other number is a refusal, and then every
  * output holds what it held before:
@@ -64,8 +65,8 @@ uint32_t perk_product(const uint16_t *a, size_t a_len, const uint16_t *b, size_t
  * 0 to n - 1, each once, and H times x in that order is zero; and wherever perk_values is given this key, this t, a
  * challenge delta, and q with each q(i,k) = u(i,k) delta + v(i,k), value j is polynomial j at delta.
  *
- * Written so that no branch and no address depends on positions, u or v, other than the decision to refuse; this is
- * not part of the proof. Stack: under 20 KiB.
+ * No jump and no address depends on positions, u or v, other than the decision to refuse; this is tested, and not part
+ * of the proof. Stack: under 20 KiB.
  */
 uint32_t perk_constraints(size_t n, size_t m, const uint16_t *h, size_t h_len, const uint16_t *x, size_t x_len,
                           const uint8_t *positions, size_t positions_len, const uint8_t *u, size_t u_len,
@@ -104,8 +105,8 @@ uint32_t perk_values(size_t n, size_t m, const uint16_t *h, size_t h_len, const 
  * order is zero, and 8 exactly when they are not; and wherever the result is 0, perk_verify accepts t and a with the same
  * key and weights, any challenge delta, each q(i,k) = u(i,k) delta + v(i,k) and each masks(k) = s(k) delta + r(k).
  *
- * Written so that no branch and no address depends on positions, u, v, r or s, other than the decision to refuse; this is
- * not part of the proof. Stack: under 48 KiB.
+ * No jump and no address depends on positions, u, v, r or s, other than the decision to refuse; this is tested, and not
+ * part of the proof. Stack: under 48 KiB.
  */
 uint32_t perk_prove(size_t n, size_t m, const uint16_t *h, size_t h_len, const uint16_t *x, size_t x_len,
                     const uint8_t *positions, size_t positions_len, const uint8_t *u, size_t u_len,

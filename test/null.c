@@ -1,0 +1,24 @@
+/* NULL with length 0, in every slice of every function: a slice of length 0, which is refused where another length is stated. */
+#include <stdio.h>
+#include "perk.h"
+
+static int failed;
+
+static void expect(const char *call, uint32_t result, uint32_t stated) {
+    if (result == stated) return;
+    printf("%s: %u, not %u\n", call, (unsigned)result, (unsigned)stated);
+    failed = 1;
+}
+
+int main(void) {
+    expect("sum", perk_sum(NULL, 0, NULL, 0, NULL, 0), 3);
+    expect("product", perk_product(NULL, 0, NULL, 0, NULL, 0), 3);
+    for (size_t n = 0; n < 4; n++) {
+        uint32_t stated = n < 2 ? 1 : 3;
+        expect("constraints", perk_constraints(n, 1, NULL, 0, NULL, 0, NULL, 0, NULL, 0, NULL, 0, NULL, 0, NULL, 0), stated);
+        expect("values", perk_values(n, 1, NULL, 0, NULL, 0, NULL, 0, NULL, 0, NULL, 0, NULL, 0), stated);
+        expect("prove", perk_prove(n, 1, NULL, 0, NULL, 0, NULL, 0, NULL, 0, NULL, 0, NULL, 0, NULL, 0, NULL, 0, NULL, 0, NULL, 0), stated);
+        expect("verify", perk_verify(n, 1, NULL, 0, NULL, 0, NULL, 0, NULL, 0, NULL, 0, NULL, 0, NULL, 0, NULL, 0), stated);
+    }
+    return failed;
+}

@@ -19,6 +19,10 @@
  *   6   a coordinate of an element of K is above 2047
  *   7   a position is 2^d or more
  *   8   a top coefficient of the n + m polynomials is not zero: the positions do not solve the key
+ *   9   fewer bytes remain than a field's head or its content needs
+ *  10   not the tag that comes next
+ *  11   not the length stated for the field
+ *  12   bytes follow the last field
  *
  * Refusals are tried in the order in which a function lists them; the first that applies is the result.
  *
@@ -41,13 +45,13 @@ extern "C" {
 
 /*
  * out becomes a + b in K. Each of a, b and out has 12 words.
- * Refusals: 3 (a, b, out), 6 (a, b).
+ * Refusals: 3 (a, b, out), 6 (a, b). Stack: under 2 KiB.
  */
 uint32_t perk_sum(const uint16_t *a, size_t a_len, const uint16_t *b, size_t b_len, uint16_t *out, size_t out_len);
 
 /*
  * out becomes a times b in K. Each of a, b and out has 12 words.
- * Refusals: 3 (a, b, out), 6 (a, b).
+ * Refusals: 3 (a, b, out), 6 (a, b). Stack: under 2 KiB.
  */
 uint32_t perk_product(const uint16_t *a, size_t a_len, const uint16_t *b, size_t b_len, uint16_t *out, size_t out_len);
 
@@ -131,6 +135,34 @@ uint32_t perk_verify(size_t n, size_t m, const uint16_t *h, size_t h_len, const 
                      const uint8_t *t, size_t t_len, const uint16_t *q, size_t q_len,
                      const uint16_t *delta, size_t delta_len, const uint16_t *masks, size_t masks_len,
                      const uint16_t *alpha, size_t alpha_len, const uint16_t *a, size_t a_len);
+
+/*
+ * A package is the fields 01 sizes (n, m), 02 H, 03 x, 05 serial, 06 t, 07 a, each a tag of one byte, a length of two bytes
+ * and its content, numbers highest byte first; a check file is a package followed by 11 q, 12 mask numbers, 13 delta,
+ * 14 alpha. The readers try for each field in turn 9 (head), 10, 11, 9 (content) and the refusal of its values (01: 1, 2;
+ * 02, 03: 4; 06: 5; 07, 11 to 14: 6), and then 12. They read any number of bytes.
+ *
+ * n, m and the serial of a package; on a refusal the three keep their values. Stack: under 2 KiB.
+ */
+uint32_t perk_read_package(const uint8_t *bytes, size_t bytes_len, uint32_t *n, uint32_t *m, uint32_t *serial);
+
+/*
+ * The same of a check file.
+ */
+uint32_t perk_read_check_file(const uint8_t *bytes, size_t bytes_len, uint32_t *n, uint32_t *m, uint32_t *serial);
+
+/*
+ * Where the content of the field with a tag stands in a package: returns its length, and start is its first byte's place
+ * in bytes. 0, with start 0, for a package that perk_read_package refuses or a tag that a package does not have; no field
+ * of a package is empty. No refusal is told. Stack: under 2 KiB.
+ */
+size_t perk_field(const uint8_t *bytes, size_t bytes_len, uint8_t tag, size_t *start);
+
+/*
+ * Whether a check file's proof is accepted: the refusal of perk_read_check_file where there is one, else 0 or 255 as
+ * perk_verify answers on the fields; none of its refusals then applies. Stack: under 48 KiB.
+ */
+uint32_t perk_check(const uint8_t *bytes, size_t bytes_len);
 
 #ifdef __cplusplus
 }

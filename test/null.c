@@ -20,5 +20,13 @@ int main(void) {
         expect("prove", perk_prove(n, 1, NULL, 0, NULL, 0, NULL, 0, NULL, 0, NULL, 0, NULL, 0, NULL, 0, NULL, 0, NULL, 0, NULL, 0), stated);
         expect("verify", perk_verify(n, 1, NULL, 0, NULL, 0, NULL, 0, NULL, 0, NULL, 0, NULL, 0, NULL, 0, NULL, 0), stated);
     }
+    uint32_t kept[3] = {7, 8, 9};
+    size_t start = 5;
+    expect("read package", perk_read_package(NULL, 0, &kept[0], &kept[1], &kept[2]), 9);
+    expect("read check file", perk_read_check_file(NULL, 0, &kept[0], &kept[1], &kept[2]), 9);
+    expect("n, m and serial kept", kept[0] == 7 && kept[1] == 8 && kept[2] == 9, 1);
+    expect("field", (uint32_t)perk_field(NULL, 0, 2, &start), 0);
+    expect("its start", (uint32_t)start, 0);
+    expect("check", perk_check(NULL, 0), 9);
     return failed;
 }

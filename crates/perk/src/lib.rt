@@ -8,7 +8,12 @@ ghost use Rattle.field.specs.Level.{levelAt};
 ghost use Rattle.constraints.specs.Entry.{constraintsOutcome, valuesOutcome};
 ghost use Rattle.prover.specs.Entry.{proveOutcome};
 ghost use Rattle.verifier.specs.Entry.{verifyOutcome};
+ghost use Rattle.package.specs.Layout.{packageRows, checkFileRows};
+ghost use Rattle.package.specs.Reading.{reading, fieldPart};
+ghost use Rattle.checkfile.specs.Checking.{checkNumber, checking};
+ghost use Rattle.perk.specs.Files.{SmallSizes, readPut, spanOf};
 use key::Key;
+use package::Read;
 
 // The sum of two elements of K.
 #[no_mangle]
@@ -103,4 +108,59 @@ pub extern "C" fn perk_verify(
 {
     let key = Key { n, m };
     refusal::verdict_number(verifier::verify(key, h, x, t, q, delta, masks, alpha, a))
+}
+
+// The number of a reader's answer; n, m and the serial are written where it is no refusal.
+fn put_read(answer: Read, n: &mut u32, m: &mut u32, serial: &mut u32) -> u32
+    requires { ⌜ SmallSizes answer ⌝ }
+    ensures { λ r. ⌜ (r, (now (n .exit), now (m .exit), now (serial .exit))) ≡ readPut answer (now (n .entry), now (m .entry), now (serial .entry)) ⌝ }
+{
+    match answer {
+        Read::Fields(contents) => {
+            *n = contents.n as u32;
+            *m = contents.m as u32;
+            *serial = contents.serial;
+            0
+        }
+        Read::Refused(refusal) => refusal.number,
+    }
+}
+
+// n, m and the serial of a package.
+#[no_mangle]
+pub extern "C" fn perk_read_package(bytes: &[u8], n: &mut u32, m: &mut u32, serial: &mut u32) -> u32
+    ensures { λ r. ⌜ (r, (now (n .exit), now (m .exit), now (serial .exit))) ≡ readPut (reading (levelAt 1) (packageRows (levelAt 1)) (now (bytes .entry))) (now (n .entry), now (m .entry), now (serial .entry)) ⌝ }
+{
+    put_read(package::read_package(bytes), n, m, serial)
+}
+
+// n, m and the serial of a check file.
+#[no_mangle]
+pub extern "C" fn perk_read_check_file(
+    bytes: &[u8],
+    n: &mut u32,
+    m: &mut u32,
+    serial: &mut u32,
+) -> u32
+    ensures { λ r. ⌜ (r, (now (n .exit), now (m .exit), now (serial .exit))) ≡ readPut (reading (levelAt 1) (checkFileRows (levelAt 1)) (now (bytes .entry))) (now (n .entry), now (m .entry), now (serial .entry)) ⌝ }
+{
+    put_read(package::read_check_file(bytes), n, m, serial)
+}
+
+// The length of a field's content in a package, and where it starts.
+#[no_mangle]
+pub extern "C" fn perk_field(bytes: &[u8], tag: u8, start: &mut usize) -> usize
+    ensures { λ r. ⌜ (r, now (start .exit)) ≡ spanOf (fieldPart (levelAt 1) (packageRows (levelAt 1)) (now (bytes .entry)) tag) ⌝ }
+{
+    let part = package::field_part(bytes, tag);
+    *start = part.start;
+    part.len
+}
+
+// Whether a check file's proof is accepted.
+#[no_mangle]
+pub extern "C" fn perk_check(bytes: &[u8]) -> u32
+    ensures { λ r. ⌜ r ≡ checkNumber (checking (levelAt 1) (now (bytes .entry))) ⌝ }
+{
+    checkfile::number(checkfile::check(bytes))
 }

@@ -25,8 +25,25 @@ pub struct Entry {
     pub library: Call,
     /// The entry of the reference.
     pub reference: Call,
+    /// A table of its cases, where the answers alone don't tell them apart.
+    pub table: Option<Table>,
     /// The groups of cases.
     pub groups: &'static [Group],
+}
+
+/// A cell of a table: the names of its row and of its column.
+pub type Cell = (&'static str, &'static str);
+
+/// A table of the cases of an entry. Each cell that is named must be reached.
+pub struct Table {
+    /// What the names of the rows are.
+    pub of: &'static str,
+    /// The names of the columns.
+    pub columns: &'static [&'static str],
+    /// The name of each row, and the columns that a case in it can have.
+    pub rows: &'static [(&'static str, &'static [&'static str])],
+    /// The row and the column of a case, given what the reference answers.
+    pub cell: fn(u32, &[usize], &[Lent]) -> Cell,
 }
 
 /// A group of cases of one entry.
@@ -61,5 +78,5 @@ pub struct Stated {
     /// The index of the element.
     pub index: usize,
     /// Its value.
-    pub value: u16,
+    pub value: u64,
 }

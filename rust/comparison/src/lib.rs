@@ -1,12 +1,14 @@
 //! Compares the entries of the static library libperk.a with the reference
-//! implementation, on seeded inputs.
+//! implementation, on seeded inputs, and with the test vectors.
 //!
 //! - [`perk`]: the C functions of the library, as functions on slices;
 //! - [`lent`]: lent slices with guard words on both sides;
 //! - [`case`]: an entry, its groups of cases, and one case;
 //! - [`run`]: the calls, the comparisons and the report;
 //! - [`entries`]: the entries, one file for each group of entries, and what
-//!   the entries that take a key have in common.
+//!   the entries that take a key, or the bytes of a file, have in common;
+//! - [`program`]: the program perkcheck, run with files on a pipe;
+//! - [`vectors`]: the files of `vectors/`, read back, as what is expected.
 //!
 //! A new entry needs its C function in [`perk`], a file in [`entries`], and a
 //! place in the list [`entries::ALL`].
@@ -17,4 +19,6 @@ pub mod case;
 pub mod entries;
 pub mod lent;
 pub mod perk;
+pub mod program;
 pub mod run;
+pub mod vectors;

@@ -1,9 +1,10 @@
 //! The C functions of libperk.a, as functions on slices. Each answers 0 when
-//! it is done, else the number of the refusal; verify answers 255 when it
-//! rejects.
+//! it is done, else the number of the refusal; verify and check answer 255 when
+//! they reject. The field of a package answers a length.
 //!
-//! Beside each function stands a module of its name, with the names of what it
-//! takes, and with a call of any implementation on the slices of a case.
+//! Beside each function that takes slices alone stands a module of its name,
+//! with the names of what it takes, and with a call of any implementation on
+//! the slices of a case.
 #![allow(unsafe_code)]
 
 use crate::lent::{Element, Lent};
@@ -124,4 +125,57 @@ entries! {
     numbers (n, m),
     inputs (h: u16, x: u16, t: u8, q: u16, delta: u16, masks: u16, alpha: u16, a: u16),
     outputs ();
+}
+
+/// Declares C functions that read the bytes of a file and write n, m and the
+/// serial, and for each a function that calls it.
+macro_rules! readers {
+    ($(
+        $(#[$about:meta])*
+        $name:ident = $function:ident;
+    )*) => {$(
+        $(#[$about])*
+        pub fn $name(bytes: &[u8], n: &mut u32, m: &mut u32, serial: &mut u32) -> u32 {
+            extern "C" {
+                fn $function(
+                    bytes: *const u8,
+                    bytes_len: usize,
+                    n: *mut u32,
+                    m: *mut u32,
+                    serial: *mut u32,
+                ) -> u32;
+            }
+            // SAFETY: the slice is valid for its length, and the numbers don't
+            // overlap it or one another.
+            unsafe { $function(bytes.as_ptr(), bytes.len(), n, m, serial) }
+        }
+    )*};
+}
+
+readers! {
+    /// The entry read package.
+    read_package = perk_read_package;
+
+    /// The entry read check file.
+    read_check_file = perk_read_check_file;
+}
+
+/// The entry field of a package: writes where the part starts in the bytes, and
+/// answers its length.
+pub fn field(bytes: &[u8], tag: u8, start: &mut usize) -> usize {
+    extern "C" {
+        fn perk_field(bytes: *const u8, bytes_len: usize, tag: u8, start: *mut usize) -> usize;
+    }
+    // SAFETY: the slice is valid for its length, and the number doesn't overlap
+    // it.
+    unsafe { perk_field(bytes.as_ptr(), bytes.len(), tag, start) }
+}
+
+/// Reads a check file and verifies it.
+pub fn check(bytes: &[u8]) -> u32 {
+    extern "C" {
+        fn perk_check(bytes: *const u8, bytes_len: usize) -> u32;
+    }
+    // SAFETY: the slice is valid for its length.
+    unsafe { perk_check(bytes.as_ptr(), bytes.len()) }
 }

@@ -1,10 +1,13 @@
 //! The comparison finds each kind of fault: entries with one deliberate fault
-//! are run in the place of the library.
+//! are run in the place of the library, and other programs in the place of
+//! perkcheck.
 
-use comparison::case::{Call, Case, Entry, Group, Stated};
+use comparison::case::{Call, Case, Entry, Group, Stated, Table};
 use comparison::lent::Lent;
+use comparison::program::{self, File};
 use comparison::run::Run;
 use reference::samples::Generator;
+use std::path::Path;
 
 /// Copies one byte; 3 when a slice isn't of length 1, then 5 when the byte is
 /// above 1.
@@ -55,6 +58,7 @@ fn entry(library: Call, groups: &'static [Group]) -> Entry {
         refusals: &[3, 5],
         library,
         reference: right,
+        table: None,
         groups,
     }
 }
@@ -266,10 +270,99 @@ fn a_word_altered_in_each_entry() {
 }
 
 #[test]
-fn no_word_to_alter() {
-    let mut run = Run::new(1, Some(1));
+fn words_are_counted_from_the_first_again() {
+    let mut run = Run::new(1, Some(7));
     run.entry(&entry(right, &[ALL]));
+    assert_eq!(run.altered_words(), [1, 1, 0]);
+}
+
+#[test]
+fn no_word_to_alter() {
+    const REFUSED: Group = Group {
+        name: "refused",
+        cases: |generator, each| each(case(generator, &[2], 1, 5)),
+    };
+    let mut run = Run::new(1, Some(0));
+    run.entry(&entry(right, &[REFUSED]));
     assert_eq!(run.altered_words(), [0, 0, 1]);
+}
+
+/// The rows of a table.
+type Rows = &'static [(&'static str, &'static [&'static str])];
+
+/// The entry with a table of its inputs, short ones and long ones.
+fn with_table(rows: Rows) -> Entry {
+    let table = Table {
+        of: "input",
+        columns: &["0", "3", "5"],
+        rows,
+        cell: |answer, _, inputs| {
+            let row = if inputs[0].len() == 1 {
+                "short"
+            } else {
+                "long"
+            };
+            let column = match answer {
+                0 => "0",
+                3 => "3",
+                _ => "5",
+            };
+            (row, column)
+        },
+    };
+    Entry {
+        table: Some(table),
+        ..entry(right, &[ALL])
+    }
+}
+
+#[test]
+fn table_of_all_cells() {
+    const ROWS: Rows = &[("short", &["0", "3", "5"]), ("long", &["3"])];
+    assert!(passes(with_table(ROWS), None));
+}
+
+#[test]
+fn cell_not_reached() {
+    const ROWS: Rows = &[("short", &["0", "3", "5"]), ("long", &["3", "5"])];
+    assert!(!passes(with_table(ROWS), None));
+}
+
+#[test]
+fn cell_that_cannot_be_reached() {
+    const ROWS: Rows = &[("short", &["0", "5"]), ("long", &["3"])];
+    assert!(!passes(with_table(ROWS), None));
+}
+
+/// What a program does with a file.
+fn run_program(path: &str, bytes: &[u8], open: bool) -> Result<String, String> {
+    let bytes = bytes.to_vec();
+    let file = File { bytes, open };
+    program::run(Path::new(path), &file, &mut Generator::new(1))
+}
+
+#[test]
+fn all_pieces_of_a_file_arrive() {
+    for len in [0, 1, 1_000, 200_000] {
+        let text: String = ('a'..='z').cycle().take(len).collect();
+        let found = run_program("/bin/cat", text.as_bytes(), false);
+        assert_eq!(found, Ok(text));
+    }
+}
+
+#[test]
+fn the_pipe_stays_open() {
+    // The program ends without having read all.
+    assert_eq!(
+        run_program("/bin/true", &[0; 200_000], true),
+        Ok(String::new())
+    );
+}
+
+#[test]
+fn other_ends_of_a_program() {
+    assert!(run_program("/bin/false", &[0; 10], false).is_err());
+    assert!(run_program("/bin/none", &[0; 10], false).is_err());
 }
 
 #[test]

@@ -36,7 +36,8 @@ pub mod vectors;
 
 pub use entries::{constraints, product, prove, sum, values, verify, Verdict};
 pub use package::{
-    field, field_range, read_check_file, read_package, write_check_file, write_package, Contents,
+    field, field_range, judge_check_file, judge_package, read_check_file, read_package,
+    write_check_file, write_package, Contents, Place, Refused,
 };
 pub use perkcheck::{check, perkcheck_line};
 pub use refusal::Refusal;

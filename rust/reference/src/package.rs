@@ -25,6 +25,34 @@ pub struct Contents {
     pub serial: u32,
 }
 
+/// The places of the readers, in the order of the table.
+#[derive(Clone, Copy, Debug, PartialEq, Eq, PartialOrd, Ord, Hash)]
+pub enum Place {
+    /// P1, "head".
+    Head,
+    /// P2, "tag".
+    Tag,
+    /// P3, "length".
+    Length,
+    /// P4, "content".
+    Content,
+    /// P5, "values".
+    Values,
+    /// P6, "end".
+    End,
+}
+
+/// Where a reader refuses, and why.
+#[derive(Clone, Copy, Debug, PartialEq, Eq)]
+pub struct Refused {
+    /// The refusal.
+    pub refusal: Refusal,
+    /// The place.
+    pub place: Place,
+    /// The tag of the field that comes next there; none at the end.
+    pub tag: Option<u8>,
+}
+
 /// A piece of the bytes, before anything is judged.
 enum Piece {
     /// A field: its tag, its length as written, and where its content stands.
@@ -68,15 +96,15 @@ fn split(bytes: &[u8]) -> Vec<Piece> {
 }
 
 /// The places P1 to P4 for the piece that stands where the field with this
-/// tag and this stated length comes next; the place of its content.
+/// tag and this stated length comes next; where its content stands.
 fn judge_head_and_length(
     piece: Option<&Piece>,
     stated_tag: u8,
     stated_length: usize,
-) -> Result<Range<usize>, Refusal> {
+) -> Result<Range<usize>, (Place, Refusal)> {
     match piece {
         // P1: "fewer than 3 bytes remain for tag and length".
-        None | Some(Piece::Rest) => Err(Refusal::BytesMissing),
+        None | Some(Piece::Rest) => Err((Place::Head, Refusal::BytesMissing)),
         Some(Piece::Field {
             tag,
             length,
@@ -84,15 +112,15 @@ fn judge_head_and_length(
         }) => {
             // P2: "not the tag that comes next".
             if *tag != stated_tag {
-                return Err(Refusal::Tag);
+                return Err((Place::Tag, Refusal::Tag));
             }
             // P3: "not the length stated above".
             if *length != stated_length {
-                return Err(Refusal::FieldLength);
+                return Err((Place::Length, Refusal::FieldLength));
             }
             // P4: "fewer bytes remain than the length".
             if content.len() < *length {
-                return Err(Refusal::BytesMissing);
+                return Err((Place::Content, Refusal::BytesMissing));
             }
             Ok(content.clone())
         }
@@ -142,27 +170,45 @@ fn judge_values(tag: u8, content: &[u8]) -> Result<(), Refusal> {
 /// A field of accepted bytes: its tag and where its content stands.
 type Found = (u8, Range<usize>);
 
-/// Judges the bytes: "the readers instead run places P1 to P5 for each field
-/// in turn, then P6".
-fn judge(bytes: &[u8], tags: &[u8]) -> Result<(Sizes, Vec<Found>), Refusal> {
-    let pieces = split(bytes);
-
-    // "01 sizes (n, m, one byte each)"; the other lengths depend on them.
-    let content = judge_head_and_length(pieces.first(), tags[0], 2)?;
+/// Field 01 with its values: "01 sizes (n, m, one byte each)".
+fn judge_sizes(
+    bytes: &[u8],
+    piece: Option<&Piece>,
+) -> Result<(Sizes, Range<usize>), (Place, Refusal)> {
+    let content = judge_head_and_length(piece, 0x01, 2)?;
     let n = usize::from(bytes[content.start]);
     let m = usize::from(bytes[content.start + 1]);
-    let sizes = Sizes::judged(n, m)?;
+    let sizes = Sizes::judged(n, m).map_err(|refusal| (Place::Values, refusal))?;
+    Ok((sizes, content))
+}
 
+/// Judges the bytes: "the readers instead run places P1 to P5 for each field
+/// in turn, then P6".
+fn judge(bytes: &[u8], tags: &[u8]) -> Result<(Sizes, Vec<Found>), Refused> {
+    let at = |tag| {
+        move |(place, refusal)| Refused {
+            refusal,
+            place,
+            tag,
+        }
+    };
+    let pieces = split(bytes);
+
+    // The other lengths depend on the sizes.
+    let (sizes, content) = judge_sizes(bytes, pieces.first()).map_err(at(Some(tags[0])))?;
     let mut found = vec![(tags[0], content)];
     for (index, &tag) in tags.iter().enumerate().skip(1) {
-        let content = judge_head_and_length(pieces.get(index), tag, stated_length(tag, sizes))?;
-        judge_values(tag, &bytes[content.clone()])?;
+        let content = judge_head_and_length(pieces.get(index), tag, stated_length(tag, sizes))
+            .map_err(at(Some(tag)))?;
+        judge_values(tag, &bytes[content.clone()])
+            .map_err(|refusal| (Place::Values, refusal))
+            .map_err(at(Some(tag)))?;
         found.push((tag, content));
     }
 
     // P6: "bytes follow the last field".
     if pieces.len() > tags.len() {
-        return Err(Refusal::BytesFollow);
+        return Err(at(None)((Place::End, Refusal::BytesFollow)));
     }
     Ok((sizes, found))
 }
@@ -187,12 +233,22 @@ fn contents(bytes: &[u8], sizes: Sizes, found: &[Found]) -> Contents {
 
 /// The entry read package: "answer n, m and the serial, or a refusal".
 pub fn read_package(bytes: &[u8]) -> Result<Contents, Refusal> {
-    let (sizes, found) = judge(bytes, &PACKAGE_TAGS)?;
-    Ok(contents(bytes, sizes, &found))
+    judge_package(bytes).map_err(|refused| refused.refusal)
 }
 
 /// The entry read check file: "answer n, m and the serial, or a refusal".
 pub fn read_check_file(bytes: &[u8]) -> Result<Contents, Refusal> {
+    judge_check_file(bytes).map_err(|refused| refused.refusal)
+}
+
+/// What read package answers, with the place of a refusal.
+pub fn judge_package(bytes: &[u8]) -> Result<Contents, Refused> {
+    let (sizes, found) = judge(bytes, &PACKAGE_TAGS)?;
+    Ok(contents(bytes, sizes, &found))
+}
+
+/// What read check file answers, with the place of a refusal.
+pub fn judge_check_file(bytes: &[u8]) -> Result<Contents, Refused> {
     let (sizes, found) = judge(bytes, &CHECK_FILE_TAGS)?;
     Ok(contents(bytes, sizes, &found))
 }

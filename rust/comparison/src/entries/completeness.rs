@@ -46,6 +46,7 @@ pub const COMPLETENESS: Entry = Entry {
     refusals: &[],
     library: prove_and_verify,
     reference: by_the_key,
+    table: None,
     groups: &[SOLVING, EVERY_WORD, OTHERS, ALL_POSITIONS],
 };
 

@@ -53,6 +53,7 @@ pub const CONSTRAINTS: Entry = Entry {
         let entry = reference::constraints;
         number(perk::constraints::with(entry, numbers, inputs, outputs))
     },
+    table: None,
     groups: &[
         EXAMPLES,
         EVERY_N,
@@ -83,6 +84,7 @@ pub const VALUES: Entry = Entry {
         let entry = reference::values;
         number(perk::values::with(entry, numbers, inputs, outputs))
     },
+    table: None,
     groups: &[
         VALUES_EXAMPLES,
         HONEST,
@@ -249,7 +251,7 @@ fn stated(output: usize, index: usize, value: u16) -> Stated {
     Stated {
         output,
         index,
-        value,
+        value: value.into(),
     }
 }
 

@@ -49,6 +49,7 @@ pub const BOTH_FACTS: Entry = Entry {
     refusals: &[],
     library: values_and_tops,
     reference: polynomials_at_delta,
+    table: None,
     groups: &[ALL_POSITIONS, SOLVING, OTHERS],
 };
 

@@ -75,6 +75,7 @@ const fn entry(
         refusals: &[LENGTH, COORDINATE],
         library,
         reference,
+        table: None,
         groups,
     }
 }
@@ -332,7 +333,7 @@ fn stated(generator: &mut Generator, a: &[u16], b: &[u16], product: &[u16]) -> C
     let words = product.iter().enumerate().map(|(index, &value)| Stated {
         output: 0,
         index,
-        value,
+        value: value.into(),
     });
     Case {
         stated: Some(words.collect()),

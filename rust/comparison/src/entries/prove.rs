@@ -60,6 +60,7 @@ pub const PROVE: Entry = Entry {
         let entry = reference::prove;
         number(perk::prove::with(entry, numbers, inputs, outputs))
     },
+    table: None,
     groups: &[
         EXAMPLES,
         SOLVING,

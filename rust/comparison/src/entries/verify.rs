@@ -50,6 +50,7 @@ pub const VERIFY: Entry = Entry {
         let entry = reference::verify;
         verdict(perk::verify::with(entry, numbers, inputs, outputs))
     },
+    table: None,
     groups: &[
         EXAMPLES,
         HONEST,

@@ -4,19 +4,22 @@ use reference::package::{check_file_field, join, CHECK_FILE_TAGS, PACKAGE_TAGS};
 use reference::samples::{Generator, Sample};
 use reference::vectors::Cases;
 use reference::{
-    check, field, field_range, perkcheck_line, read_check_file, read_package, write_check_file,
-    write_package, Contents, Refusal, Verdict,
+    check, field, field_range, judge_check_file, judge_package, perkcheck_line, read_check_file,
+    read_package, write_check_file, write_package, Contents, Refused, Verdict,
 };
 use std::collections::BTreeMap;
 
+/// What a reader answers: n, m and the serial, or the number of the refusal,
+/// the number of its place and the tag of the field; 0 for no field.
+type Plain = Result<(usize, usize, u32), (u32, u32, u8)>;
+
 /// A second reader for comparison: it walks along the bytes and judges each
-/// field where it stands. Answers n, m and the serial, or a number.
-fn walk(bytes: &[u8], check_file: bool) -> Result<(usize, usize, u32), u32> {
+/// field where it stands.
+fn walk(bytes: &[u8], check_file: bool) -> Plain {
     let (mut n, mut m, mut d, mut serial) = (0, 0, 0, 0);
     let mut at = 0;
     let steps = if check_file { 10 } else { 6 };
     for step in 0..steps {
-        let head = bytes.get(at..at + 3).ok_or(9u32)?;
         let (tag, length) = match step {
             0 => (0x01, 2),
             1 => (0x02, 2 * m * n),
@@ -29,44 +32,48 @@ fn walk(bytes: &[u8], check_file: bool) -> Result<(usize, usize, u32), u32> {
             8 => (0x13, 24),
             _ => (0x14, 24 * (n + m)),
         };
+        let head = bytes.get(at..at + 3).ok_or((9, 1, tag))?;
         if head[0] != tag {
-            return Err(10);
+            return Err((10, 2, tag));
         }
         if usize::from(head[1]) * 256 + usize::from(head[2]) != length {
-            return Err(11);
+            return Err((11, 3, tag));
         }
-        let content = bytes.get(at + 3..at + 3 + length).ok_or(9u32)?;
+        let content = bytes.get(at + 3..at + 3 + length).ok_or((9, 4, tag))?;
         // A word is above 2047 when its high byte is above 7.
         let high = content.iter().step_by(2).any(|&byte| byte > 7);
         match step {
             0 => {
                 (n, m) = (usize::from(content[0]), usize::from(content[1]));
                 if !(2..65).contains(&n) {
-                    return Err(1);
+                    return Err((1, 5, tag));
                 }
                 if m < 1 || m >= n {
-                    return Err(2);
+                    return Err((2, 5, tag));
                 }
                 d = (1..7).find(|&d| 1 << d >= n).expect("n is at most 64");
             }
-            1 | 2 if high => return Err(4),
+            1 | 2 if high => return Err((4, 5, tag)),
             3 => serial = u32::from(content[0]) << 8 | u32::from(content[1]),
-            4 if content.iter().any(|&byte| byte > 1) => return Err(5),
-            5.. if high => return Err(6),
+            4 if content.iter().any(|&byte| byte > 1) => return Err((5, 5, tag)),
+            5.. if high => return Err((6, 5, tag)),
             _ => {}
         }
         at += 3 + length;
     }
     if at < bytes.len() {
-        return Err(12);
+        return Err((12, 6, 0));
     }
     Ok((n, m, serial))
 }
 
-fn plain(answer: Result<Contents, Refusal>) -> Result<(usize, usize, u32), u32> {
+fn plain(answer: Result<Contents, Refused>) -> Plain {
     answer
         .map(|contents| (contents.n, contents.m, contents.serial))
-        .map_err(Refusal::number)
+        .map_err(|refused| {
+            let place = 1 + refused.place as u32;
+            (refused.refusal.number(), place, refused.tag.unwrap_or(0))
+        })
 }
 
 /// Samples of some sizes with small files.
@@ -117,9 +124,9 @@ fn both_readers_agree_with_a_second_reader() {
             for _ in 0..generator.below(4) {
                 change(&mut bytes, &starts[..count], &mut generator);
             }
-            assert_eq!(plain(read_package(&bytes)), walk(&bytes, false));
-            assert_eq!(plain(read_check_file(&bytes)), walk(&bytes, true));
-            let answer = walk(&bytes, check_file).err().unwrap_or(0);
+            assert_eq!(plain(judge_package(&bytes)), walk(&bytes, false));
+            assert_eq!(plain(judge_check_file(&bytes)), walk(&bytes, true));
+            let answer = walk(&bytes, check_file).map_or_else(|(number, ..)| number, |_| 0);
             let answers = if check_file {
                 &mut check_answers
             } else {
@@ -146,8 +153,8 @@ fn random_bytes_agree_with_a_second_reader() {
                 *byte = right;
             }
         }
-        assert_eq!(plain(read_package(&bytes)), walk(&bytes, false));
-        assert_eq!(plain(read_check_file(&bytes)), walk(&bytes, true));
+        assert_eq!(plain(judge_package(&bytes)), walk(&bytes, false));
+        assert_eq!(plain(judge_check_file(&bytes)), walk(&bytes, true));
     }
 }
 

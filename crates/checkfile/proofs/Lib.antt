@@ -1,0 +1,5 @@
+pub mod Rooms
+pub mod Joined
+pub mod Judged
+pub mod Text
+pub mod Decimals

@@ -1,0 +1,80 @@
+-- Texts written one after the other into a list.
+use mathlib.Core.Path.{_≡_, refl, sym, ap, ap₂, _∙_, subst}
+use mathlib.Core.List.{List, [], _∷_, _++_, append-assoc, append-nil}
+use Prim.Native.Nat.{ℕ, suc, _+_, _≤_, _<_}
+use native.Mathlib.Numerals.{add-one}
+use native.Mathlib.Omega.{arith}
+use mathlib.Core.Bool.{Bool, true, false, cond}
+use lib.Dec.{ltb}
+use borrow.Author.Tests.{lt-ltb, le-ltb}
+use lib.ListN.{length, getD, take, drop, set, length-append, List·getD-append}
+use lib.Seq.{paste, paste-suc, getD-append-seam, drop-append-add, take-at, length-take-le, drop-drop}
+use Rattle.lists.specs.Words.{put}
+use Rattle.lists.proofs.Words.{put-pasted}
+use Rattle.checkfile.specs.declared.Checked.{Checked}
+use Rattle.checkfile.specs.Line.{lineOf, printed}
+
+-- the bytes of a text and one after it, written one by one
+module _ (d text : List ℕ) (at last i : ℕ) where
+  abbrev whole : List ℕ
+  whole = text ++ (last ∷ [])
+
+  long : length whole ≡ length text + 1
+  long = length-append text (last ∷ [])
+
+  pub text-more : {out : List ℕ} → out ≡ paste d at whole i → at + i < length d → i < length text → set out (at + i) (getD text i 0) ≡ paste d at whole (i + 1)
+  text-more e h b =
+      let more : i < length whole = omega (arith, long) in
+      ap₂ (λ (o : List ℕ) (x : ℕ). set o (at + i) x) e (sym (List·getD-append text (last ∷ []) 0 i b)) ∙ paste-suc d at whole i 0 h more ∙ ap (paste d at whole) (sym (add-one i))
+
+  pub text-last : {out : List ℕ} → out ≡ paste d at whole i → at + i < length d → i ≡ length text → set out (at + i) last ≡ put at whole d
+  text-last e h b =
+      let more : i < length whole = omega (arith, long) in
+      let is : last ≡ getD whole i 0 = sym (getD-append-seam text last [] 0) ∙ ap (λ k. getD whole k 0) (sym b) in
+      ap₂ (λ (o : List ℕ) (x : ℕ). set o (at + i) x) e is ∙ paste-suc d at whole i 0 h more ∙ put-pasted at (suc i) whole d (omega (arith, long))
+
+-- one text after another
+pub put-more : (s a b : List ℕ) → length a + length b ≤ length s → put (length a) b (put 0 a s) ≡ put 0 (a ++ b) s
+put-more s a b h =
+    let far : 0 + length a + length b ≡ 0 + length (a ++ b) = omega (arith, length-append a b) in
+    ap₂ (λ (u v : List ℕ). u ++ b ++ v) (take-at a (drop (0 + length a) s) (length a) refl) (drop-append-add a (drop (0 + length a) s) (length b) ∙ drop-drop (length b) (0 + length a) s ∙ ap (λ k. drop k s) far)
+
+-- what stands at the start of s, and the place after it
+pub record Stands (s a t : List ℕ) (i : ℕ) : Type 0 where
+  pub is : t ≡ put 0 a s
+  pub end : i ≡ length a
+
+-- a text, and one byte after it
+pub stands-more : {s a t u : List ℕ} {i j : ℕ} (b : List ℕ) (last : ℕ) → Stands s a t i → i + (length b + 1) ≤ length s → u ≡ put i (b ++ (last ∷ [])) t → j ≡ i + (length b + 1) → Stands s (a ++ (b ++ (last ∷ []))) u j
+stands-more {s} {a} b last w h e f =
+    let size = length-append b (last ∷ []) in
+    let end = w .end in
+    record {
+      is = e ∙ ap₂ (λ (k : ℕ) (r : List ℕ). put k (b ++ (last ∷ [])) r) end (w .is) ∙ put-more s a (b ++ (last ∷ [])) (omega arith);
+      end = omega (arith, length-append a (b ++ (last ∷ [])));
+    }
+
+-- six texts, each after the others, and each before the others
+pub six : (a b c d e f : List ℕ) → a ++ b ++ c ++ d ++ e ++ f ≡ a ++ (b ++ (c ++ (d ++ (e ++ (f ++ [])))))
+six a b c d e f = simp (append-assoc, append-nil)
+
+-- a line at the start of s, where s has room
+pub line-printed : (checked : Checked) {s u : List ℕ} {r : ℕ} → Stands s (lineOf checked) u r → 96 ≤ length s → (r, u) ≡ printed checked s
+line-printed checked {s} {u} w h =
+    let line = lineOf checked in
+    let far : 0 + length line ≡ length line = omega arith in
+    ap₂ (λ (k : ℕ) (t : List ℕ). (k, t)) (w .end) (w .is ∙ ap (λ k. line ++ drop k s) far) ∙ sym (ap (λ b. cond b (0, s) (length line, line ++ drop (length line) s)) (le-ltb (length s) 96 h))
+
+pub line-short : (checked : Checked) (s : List ℕ) → length s < 96 → (0, s) ≡ printed checked s
+line-short checked s h = let line = lineOf checked in sym (ap (λ b. cond b (0, s) (length line, line ++ drop (length line) s)) (lt-ltb (length s) 96 h))
+
+-- no more bytes are counted than there are
+pub printed-fits : (checked : Checked) (s : List ℕ) {u : List ℕ} {r : ℕ} → (r, u) ≡ printed checked s → ((r, u) ≡ printed checked s) × ((r ≤ length u) × (r ≡ length (take r u)))
+printed-fits checked s {u} {r} e = let h = subst (λ (p : ℕ × List ℕ). p .0 ≤ length (p .1)) (sym e) (either (ltb (length s) 96)) in (e, (h, sym (length-take-le r u h)))
+  where
+    line : List ℕ
+    line = lineOf checked
+
+    either : (b : Bool) → let p = cond {A = ℕ × List ℕ} b (0, s) (length line, line ++ drop (length line) s) in p .0 ≤ length (p .1)
+    either true = omega arith
+    either false = omega (arith, length-append line (drop (length line) s))

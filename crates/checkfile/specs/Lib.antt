@@ -1,0 +1,3 @@
+pub mod Checking
+pub mod Judged
+pub mod Line

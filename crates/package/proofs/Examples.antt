@@ -1,0 +1,63 @@
+-- Edges of document 01 on the check file of key A, of the definitions, as one statement over a list.
+use mathlib.Core.Path.{_≡_, refl}
+use mathlib.Core.List.{List, [], _∷_, _++_, map}
+use Prim.Native.Nat.{ℕ}
+use lib.Count.{leadingZeros}
+use lib.ListN.{replicate, take, set}
+use Rattle.lists.specs.Words.{all}
+use Rattle.field.specs.Level.{levelAt}
+use Rattle.field.specs.Word.{within}
+use Rattle.key.specs.Key.{degree, below}
+use Rattle.package.specs.declared.Read.{Read}
+use Rattle.package.specs.declared.Read.the-variants.{Fields, Refused}
+use Rattle.package.specs.Layout.{packageRows, checkFileRows}
+use Rattle.package.specs.Reading.{words, rowTests, tests, after, partOf, reading}
+
+-- an element of K with only coordinate 0, before other bytes
+abbrev element : ℕ → List ℕ → List ℕ
+element low rest = 0 ∷ low ∷ (replicate 22 0 ++ rest)
+
+-- "The check file of key A, in hexadecimal"
+abbrev pub keyA : List ℕ
+keyA =
+    0x01 ∷ 0 ∷ 2 ∷ 2 ∷ 1 ∷ 0x02 ∷ 0 ∷ 4 ∷ 0 ∷ 2 ∷ 0 ∷ 1 ∷ 0x03 ∷ 0 ∷ 4 ∷ 0 ∷ 1 ∷ 0 ∷ 2 ∷ 0x05 ∷ 0 ∷ 2 ∷ 0 ∷ 7
+    ∷ 0x06 ∷ 0 ∷ 2 ∷ 1 ∷ 1 ∷ 0x07 ∷ 0 ∷ 0x18 ∷ element 5 (0x11 ∷ 0 ∷ 0x30 ∷ element 3 (element 4
+    (0x12 ∷ 0 ∷ 0 ∷ 0x13 ∷ 0 ∷ 0x18 ∷ element 2 (0x14 ∷ 0 ∷ 0x48 ∷ element 1 (element 2 (element 1 []))))))
+
+abbrev readCheck : List ℕ → Read
+readCheck s = reading (levelAt 1) (checkFileRows (levelAt 1)) s
+
+abbrev readPackage : List ℕ → Read
+readPackage s = reading (levelAt 1) (packageRows (levelAt 1)) s
+
+abbrev refused : ℕ → Read
+refused k = Refused (record { number = k })
+
+-- files, whole and with one byte changed, and what reading each as a check file answers
+pub files : List (List ℕ × Read)
+files =
+    (keyA, Fields (record { n = 2; m = 1; serial = 7 }))
+    ∷ ([], refused 9)
+    ∷ (take 211 keyA, refused 9)
+    ∷ (take 56 keyA, refused 9)
+    ∷ (keyA ++ 0 ∷ [], refused 12)
+    ∷ (set keyA 3 1, refused 1)
+    ∷ (set keyA 3 65, refused 1)
+    ∷ (set keyA 4 0, refused 2)
+    ∷ (set keyA 4 2, refused 2)
+    ∷ (set keyA 8 8, refused 4)
+    ∷ (set keyA 15 8, refused 4)
+    ∷ (set keyA 27 2, refused 5)
+    ∷ (set keyA 32 8, refused 6)
+    ∷ (set keyA 19 4, refused 10)
+    ∷ (set keyA 21 4, refused 11)
+    ∷ []
+
+pub examples : map (λ f. readCheck (f .0)) files ≡ map (λ f. f .1) files
+unfolding files levelAt degree leadingZeros checkFileRows packageRows tests rowTests after partOf words within below all
+examples = refl
+
+-- its package, and the whole file given to the reader of packages
+pub packages : readPackage (take 56 keyA) ∷ readPackage keyA ∷ [] ≡ Fields (record { n = 2; m = 1; serial = 7 }) ∷ refused 12 ∷ []
+unfolding levelAt degree leadingZeros packageRows tests rowTests after partOf words within below all
+packages = refl

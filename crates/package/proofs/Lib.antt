@@ -1,0 +1,9 @@
+pub mod Words
+pub mod Rows
+pub mod Accepted
+pub mod Bounds
+pub mod Bytes
+pub mod Joined
+pub mod Faithful
+pub mod Forms
+pub mod Examples

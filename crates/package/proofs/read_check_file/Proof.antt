@@ -1,0 +1,14 @@
+use borrow.Author.Needs.{needs}
+use Rattle.package.specs.Layout.{packageRows, checkFileRows}
+use Rattle.package.proofs.read_check_file.Statement.{statement}
+use Rattle.package.proofs.read_check_file.Tie as tie
+
+read-fields-requires : tie.Need-read-fields-requires
+read-fields-requires c κs = search needs
+
+returns : tie.Need-returns
+unfolding packageRows checkFileRows
+returns c = c .read-fields .ensures
+
+pub read-check-file-spec : {M : Type 1} → statement M
+read-check-file-spec = tie.close (tie.spec read-fields-requires returns)

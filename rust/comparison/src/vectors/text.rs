@@ -1,0 +1,525 @@
+//! Reads a text file of `vectors/`. Its form is that of `docs/vectors.md`, and
+//! any other is an error.
+
+use std::fmt::Display;
+use std::str::FromStr;
+
+/// The most bytes of a line before its line feed.
+const LINE: usize = 511;
+
+/// The most bytes of a file on a line.
+const BYTES: usize = 64;
+
+/// The number of coordinates of an element of K.
+pub const COORDINATES: usize = 12;
+
+/// The answers for the verdicts of a line.
+const VERDICTS: [(&str, u64); 2] = [("accepted", 0), ("rejected", 255)];
+
+/// A word, and where the file states it.
+#[derive(Clone, Copy, Debug)]
+pub struct Word {
+    /// Its value.
+    pub value: u64,
+    /// The line, the first is 1; 0 in a file without lines.
+    pub line: usize,
+    /// The place among the words of the line, counted from 0 after the name and
+    /// the line number; in a file without lines, the offset.
+    pub place: usize,
+}
+
+/// The words of one name.
+#[derive(Clone, Debug)]
+pub struct List {
+    /// The name.
+    pub name: &'static str,
+    /// The words, those of all its lines.
+    pub words: Vec<Word>,
+}
+
+/// The line of perkcheck for a file that isn't refused.
+#[derive(Clone, Debug)]
+pub struct Line {
+    /// The text, without a line feed.
+    pub text: String,
+    /// n.
+    pub n: List,
+    /// m.
+    pub m: List,
+    /// The serial.
+    pub serial: List,
+    /// The answer of verify and check.
+    pub verdict: List,
+}
+
+/// One byte of the check file changed.
+#[derive(Clone, Debug)]
+pub struct Change {
+    /// The offset, the byte before and the byte after.
+    pub bytes: List,
+    /// The line of the changed file.
+    pub line: Line,
+}
+
+/// A witness with what it gives.
+#[derive(Clone, Debug)]
+pub struct Witness {
+    /// The positions.
+    pub positions: List,
+    /// The masked witness.
+    pub t: List,
+    /// The coefficients of the polynomials.
+    pub polynomial: List,
+    /// The verifier's values.
+    pub value: List,
+}
+
+/// The content of a text file.
+#[derive(Clone, Debug)]
+pub struct Text {
+    /// The size n.
+    pub n: List,
+    /// The size m.
+    pub m: List,
+    /// The number of digits.
+    pub d: usize,
+    /// The serial.
+    pub serial: List,
+    /// The matrix.
+    pub h: List,
+    /// The vector.
+    pub x: List,
+    /// The mask bits.
+    pub u: List,
+    /// The offsets.
+    pub v: List,
+    /// The masks.
+    pub r: List,
+    /// The factors of the masks.
+    pub s: List,
+    /// The weights.
+    pub alpha: List,
+    /// The challenge.
+    pub delta: List,
+    /// The numbers.
+    pub q: List,
+    /// The mask numbers.
+    pub mask: List,
+    /// The witness that solves the key.
+    pub solving: Witness,
+    /// The proof.
+    pub a: List,
+    /// The check file.
+    pub file: List,
+    /// Its line.
+    pub line: Line,
+    /// The check file with a changed proof.
+    pub tampered_file: List,
+    /// Its line.
+    pub tampered_line: Line,
+    /// The changes of one byte.
+    pub changes: Vec<Change>,
+    /// The witness that doesn't solve the key.
+    pub wrong: Witness,
+    /// The refusal of prove for it.
+    pub wrong_prove: List,
+}
+
+/// The forms of values.
+#[derive(Clone, Copy)]
+enum Form {
+    /// A decimal number up to the largest of 32 bits.
+    Decimal,
+    /// A decimal number up to 255.
+    Small,
+    /// An element of F.
+    F,
+    /// An element of K.
+    K,
+}
+
+impl List {
+    /// The words of several lists, under the name of the first.
+    pub fn joined(lists: &[&List]) -> List {
+        List {
+            name: lists[0].name,
+            words: lists.iter().flat_map(|list| list.words.clone()).collect(),
+        }
+    }
+
+    /// The bytes of a file without lines.
+    pub fn of_bytes(name: &'static str, bytes: &[u8]) -> List {
+        let words = bytes.iter().enumerate().map(|(place, &byte)| Word {
+            value: byte.into(),
+            line: 0,
+            place,
+        });
+        List {
+            name,
+            words: words.collect(),
+        }
+    }
+
+    /// The number of words.
+    pub fn len(&self) -> usize {
+        self.words.len()
+    }
+
+    /// Whether there is no word.
+    pub fn is_empty(&self) -> bool {
+        self.words.is_empty()
+    }
+
+    /// The value of a word.
+    pub fn value(&self, index: usize) -> usize {
+        self.words[index].value as usize
+    }
+
+    /// A part of the list.
+    pub fn part(&self, start: usize, len: usize) -> List {
+        List {
+            name: self.name,
+            words: self.words[start..start + len].to_vec(),
+        }
+    }
+
+    /// Element I of a list of elements of K.
+    pub fn element(&self, index: usize) -> List {
+        self.part(COORDINATES * index, COORDINATES)
+    }
+
+    /// The words as bytes; the parser allows no larger ones where a name has
+    /// bytes.
+    pub fn bytes(&self) -> Vec<u8> {
+        self.words.iter().map(|word| word.value as u8).collect()
+    }
+
+    /// The words as words of 16 bits.
+    pub fn words16(&self) -> Vec<u16> {
+        self.words.iter().map(|word| word.value as u16).collect()
+    }
+
+    /// Each word as two bytes, the highest first.
+    pub fn two_bytes(&self) -> List {
+        let halves =
+            |&word: &Word| [word.value >> 8, word.value & 0xff].map(|value| Word { value, ..word });
+        List {
+            name: self.name,
+            words: self.words.iter().flat_map(halves).collect(),
+        }
+    }
+
+    /// Each two bytes as a word, the highest first. Their number is even.
+    pub fn joined_bytes(&self) -> List {
+        let pair = |pair: &[Word]| Word {
+            value: pair[0].value << 8 | pair[1].value,
+            ..pair[0]
+        };
+        List {
+            name: self.name,
+            words: self.words.chunks_exact(2).map(pair).collect(),
+        }
+    }
+
+    /// Where a word is stated.
+    pub fn place(&self, index: usize) -> String {
+        let Word { line, place, .. } = self.words[index];
+        match line {
+            0 => format!("{}, byte {place}", self.name),
+            _ => format!("{}, line {line}, word {place}", self.name),
+        }
+    }
+}
+
+/// An error in a line.
+fn error<T>(line: usize, what: impl Display) -> Result<T, String> {
+    Err(format!("line {line}: {what}"))
+}
+
+/// A decimal number without a sign and without leading zeros.
+fn decimal<T: FromStr + ToString>(text: &str) -> Option<T> {
+    let number: T = text.parse().ok()?;
+    (number.to_string() == text).then_some(number)
+}
+
+/// Numbers of the same count of lower-case hexadecimal digits.
+fn hexadecimal(text: &str, digits: usize) -> Option<Vec<u64>> {
+    let right = |byte| matches!(byte, b'0'..=b'9' | b'a'..=b'f');
+    if text.is_empty() || !text.len().is_multiple_of(digits) || !text.bytes().all(right) {
+        return None;
+    }
+    let starts = (0..text.len()).step_by(digits);
+    starts
+        .map(|start| u64::from_str_radix(&text[start..start + digits], 16).ok())
+        .collect()
+}
+
+impl Form {
+    /// The words of one value.
+    fn words(self, text: &str) -> Option<Vec<u64>> {
+        let count = match self {
+            Form::Decimal => return decimal::<u32>(text).map(|number| vec![number.into()]),
+            Form::Small => return decimal::<u8>(text).map(|number| vec![number.into()]),
+            Form::F => 1,
+            Form::K => COORDINATES,
+        };
+        hexadecimal(text, 4).filter(|words| words.len() == count)
+    }
+}
+
+impl Line {
+    /// The line of perkcheck with these words, under a name. The places of its
+    /// words are counted from `start`.
+    pub fn new(
+        name: &'static str,
+        line: usize,
+        start: usize,
+        words: &[&str],
+    ) -> Result<Line, String> {
+        let list = |place: usize, value: Option<u64>| match value {
+            Some(value) => Ok(List {
+                name,
+                words: vec![Word {
+                    value,
+                    line,
+                    place: start + place,
+                }],
+            }),
+            None => error(line, format!("{name} has a wrong word {}", start + place)),
+        };
+        let &["serial", serial, "n", n, "m", m, verdict] = words else {
+            return error(line, format!("{name} is no line of perkcheck"));
+        };
+        let number = |text| decimal::<u32>(text).map(u64::from);
+        let answer = VERDICTS.iter().find(|(name, _)| *name == verdict);
+        Ok(Line {
+            text: words.join(" "),
+            serial: list(1, number(serial))?,
+            n: list(3, number(n))?,
+            m: list(5, number(m))?,
+            verdict: list(6, answer.map(|&(_, answer)| answer))?,
+        })
+    }
+}
+
+/// The lines that are still to be read.
+struct Lines<'a> {
+    /// The words of each line.
+    lines: Vec<Vec<&'a str>>,
+    /// How many were read.
+    read: usize,
+}
+
+impl<'a> Lines<'a> {
+    /// The lines of a text.
+    fn new(text: &'a str) -> Result<Lines<'a>, String> {
+        let Some(all) = text.strip_suffix('\n') else {
+            return Err("no line feed at the end".to_string());
+        };
+        let mut lines = Vec::new();
+        for (index, line) in all.split('\n').enumerate() {
+            let words: Vec<&str> = line.split(' ').collect();
+            if line.len() > LINE || words.len() < 2 || words.contains(&"") {
+                return error(index + 1, "not a name and its values, or too long");
+            }
+            lines.push(words);
+        }
+        Ok(Lines { lines, read: 0 })
+    }
+
+    /// The name of the next line; none at the end.
+    fn next_name(&self) -> Option<&'a str> {
+        self.lines.get(self.read).map(|words| words[0])
+    }
+
+    /// The values of the next line, which has this name, and its number.
+    fn next(&mut self, name: &str) -> Result<(usize, Vec<&'a str>), String> {
+        let line = self.read + 1;
+        match self.next_name() {
+            Some(found) if found == name => {
+                self.read += 1;
+                Ok((line, self.lines[line - 1][1..].to_vec()))
+            }
+            Some(found) => error(line, format!("{name} expected, {found} found")),
+            None => error(line, format!("{name} is missing")),
+        }
+    }
+
+    /// Adds the values of a line to a list.
+    fn add(
+        list: &mut List,
+        line: usize,
+        values: &[&str],
+        count: usize,
+        form: Form,
+    ) -> Result<(), String> {
+        let name = list.name;
+        if values.len() != count {
+            let found = values.len();
+            return error(line, format!("{name} has {found} values, not {count}"));
+        }
+        let mut place = 0;
+        for value in values {
+            let Some(words) = form.words(value) else {
+                return error(line, format!("{name} has a wrong value {value}"));
+            };
+            for value in words {
+                list.words.push(Word { value, line, place });
+                place += 1;
+            }
+        }
+        Ok(())
+    }
+
+    /// A name with one line.
+    fn single(&mut self, name: &'static str, count: usize, form: Form) -> Result<List, String> {
+        let words = Vec::new();
+        let mut list = List { name, words };
+        let (line, values) = self.next(name)?;
+        Lines::add(&mut list, line, &values, count, form)?;
+        Ok(list)
+    }
+
+    /// A name with this many numbered lines.
+    fn numbered(
+        &mut self,
+        name: &'static str,
+        lines: usize,
+        count: usize,
+        form: Form,
+    ) -> Result<List, String> {
+        let words = Vec::new();
+        let mut list = List { name, words };
+        for number in 0..lines {
+            let (line, values) = self.next(name)?;
+            if values[0] != number.to_string() {
+                return error(line, format!("{name} {number} expected"));
+            }
+            Lines::add(&mut list, line, &values[1..], count, form)?;
+        }
+        Ok(list)
+    }
+
+    /// The bytes of a file, on one line or more.
+    fn bytes(&mut self, name: &'static str) -> Result<List, String> {
+        let words = Vec::new();
+        let mut list = List { name, words };
+        while list.is_empty() || self.next_name() == Some(name) {
+            let (line, values) = self.next(name)?;
+            let bytes = match values[..] {
+                [value] => hexadecimal(value, 2).filter(|bytes| bytes.len() <= BYTES),
+                _ => None,
+            };
+            let Some(bytes) = bytes else {
+                return error(line, format!("{name} has wrong bytes"));
+            };
+            let bytes = bytes.into_iter().enumerate();
+            list.words
+                .extend(bytes.map(|(place, value)| Word { value, line, place }));
+        }
+        Ok(list)
+    }
+
+    /// A line of perkcheck.
+    fn line(&mut self, name: &'static str) -> Result<Line, String> {
+        let (line, values) = self.next(name)?;
+        Line::new(name, line, 0, &values)
+    }
+
+    /// All changes of one byte, at least one.
+    fn changes(&mut self) -> Result<Vec<Change>, String> {
+        const NAME: &str = "change";
+        let mut changes = Vec::new();
+        while changes.is_empty() || self.next_name() == Some(NAME) {
+            let (line, values) = self.next(NAME)?;
+            let [offset, before, after, words @ ..] = &values[..] else {
+                return error(line, "change has too few values");
+            };
+            let byte = |text| hexadecimal(text, 2).filter(|bytes| bytes.len() == 1);
+            let (Some(offset), Some(before), Some(after)) =
+                (decimal::<u32>(offset), byte(before), byte(after))
+            else {
+                return error(line, "change has a wrong offset or byte");
+            };
+            let values = [offset.into(), before[0], after[0]];
+            let values = values.into_iter().enumerate();
+            let bytes = List {
+                name: NAME,
+                words: values
+                    .map(|(place, value)| Word { value, line, place })
+                    .collect(),
+            };
+            let line = Line::new(NAME, line, 3, words)?;
+            changes.push(Change { bytes, line });
+        }
+        Ok(changes)
+    }
+}
+
+/// The content of a text file.
+pub fn parsed(text: &str) -> Result<Text, String> {
+    let mut lines = Lines::new(text)?;
+    let lines = &mut lines;
+    let n_list = lines.single("n", 1, Form::Small)?;
+    let m_list = lines.single("m", 1, Form::Small)?;
+    let d_list = lines.single("d", 1, Form::Small)?;
+    let (n, m, d) = (n_list.value(0), m_list.value(0), d_list.value(0));
+    if d == 0 {
+        return error(3, "d is 0");
+    }
+    let serial = lines.single("serial", 1, Form::Decimal)?;
+    if serial.value(0) > usize::from(u16::MAX) {
+        return error(4, "the serial has more than two bytes");
+    }
+    let h = lines.numbered("h", m, n, Form::F)?;
+    let x = lines.single("x", n, Form::F)?;
+    let positions = lines.single("positions", n, Form::Small)?;
+    let u = lines.numbered("u", n, d, Form::Small)?;
+    let v = lines.numbered("v", n, d, Form::K)?;
+    let r = lines.numbered("r", d - 1, 1, Form::K)?;
+    let s = lines.numbered("s", d - 1, 1, Form::K)?;
+    let alpha = lines.numbered("alpha", n + m, 1, Form::K)?;
+    let delta = lines.single("delta", 1, Form::K)?;
+    let q = lines.numbered("q", n, d, Form::K)?;
+    let mask = lines.numbered("mask", d - 1, 1, Form::K)?;
+    let solving = Witness {
+        positions,
+        t: lines.numbered("t", n, d, Form::Small)?,
+        polynomial: lines.numbered("polynomial", n + m, d + 1, Form::K)?,
+        value: lines.numbered("value", n + m, 1, Form::K)?,
+    };
+    let content = Text {
+        n: n_list,
+        m: m_list,
+        d,
+        serial,
+        h,
+        x,
+        u,
+        v,
+        r,
+        s,
+        alpha,
+        delta,
+        q,
+        mask,
+        solving,
+        a: lines.numbered("a", d, 1, Form::K)?,
+        file: lines.bytes("file")?,
+        line: lines.line("line")?,
+        tampered_file: lines.bytes("tampered_file")?,
+        tampered_line: lines.line("tampered_line")?,
+        changes: lines.changes()?,
+        wrong: Witness {
+            positions: lines.single("wrong_positions", n, Form::Small)?,
+            t: lines.numbered("wrong_t", n, d, Form::Small)?,
+            polynomial: lines.numbered("wrong_polynomial", n + m, d + 1, Form::K)?,
+            value: lines.numbered("wrong_value", n + m, 1, Form::K)?,
+        },
+        wrong_prove: lines.single("wrong_prove", 1, Form::Decimal)?,
+    };
+    match lines.next_name() {
+        Some(found) => error(lines.read + 1, format!("the end expected, {found} found")),
+        None => Ok(content),
+    }
+}

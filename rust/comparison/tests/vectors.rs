@@ -1,0 +1,334 @@
+//! The comparison with the vectors finds altered files, and faults of the
+//! library.
+
+use comparison::case::Entry;
+use comparison::entries::{check, constraints, field, package_field, prove, readers, verify, ALL};
+use comparison::run::Run;
+use comparison::vectors::{compare, directory, names, Outcome, Setting};
+use reference::samples::Generator;
+use std::fs;
+use std::path::{Path, PathBuf};
+
+/// Compares the library's functions of these entries with a file.
+fn outcome(entries: &[Entry], name: &str, content: &str) -> Outcome {
+    let setting = Setting {
+        entries,
+        program: None,
+        spoil: None,
+    };
+    compare(&setting, name, content.as_bytes(), &mut Generator::new(1))
+}
+
+/// The difference that is found in a text.
+fn difference(name: &str, content: &str) -> Option<String> {
+    outcome(ALL, name, content).difference
+}
+
+/// The content of a text file.
+fn text(name: &str) -> String {
+    fs::read_to_string(directory().join(name)).expect("a file of vectors/")
+}
+
+/// A copy of the vectors, under the name of a test.
+fn copied(test: &str) -> PathBuf {
+    let copy = PathBuf::from(env!("CARGO_TARGET_TMPDIR")).join(test);
+    // It is there after an earlier run.
+    let _ = fs::remove_dir_all(&copy);
+    fs::create_dir(&copy).expect("a new directory");
+    for name in names() {
+        fs::copy(directory().join(&name), copy.join(&name)).expect("a copy");
+    }
+    copy
+}
+
+/// Whether a run over the files of this directory passes.
+fn passes(directory: &Path) -> bool {
+    let mut run = Run::new(1, None);
+    run.vectors(directory, ALL, None);
+    run.finish()
+}
+
+/// A line with another value in the place of word N after the name: another last
+/// digit, or the other verdict.
+fn altered(line: &str, word: usize) -> String {
+    let mut words: Vec<String> = line.split(' ').map(str::to_string).collect();
+    let text = &mut words[word];
+    match text.as_str() {
+        "accepted" => *text = "rejected".to_string(),
+        "rejected" => *text = "accepted".to_string(),
+        _ => {
+            let digit = text.pop().expect("a digit");
+            text.push(if digit == '0' { '1' } else { '0' });
+        }
+    }
+    words.join(" ")
+}
+
+/// The text with another line in the place of line N.
+fn with_line(content: &str, index: usize, line: &str) -> String {
+    let mut lines: Vec<&str> = content.lines().collect();
+    lines[index] = line;
+    lines.join("\n") + "\n"
+}
+
+#[test]
+fn vectors_in_the_repository() {
+    assert!(passes(&directory()));
+}
+
+#[test]
+fn altered_word_in_a_copied_file() {
+    let copy = copied("altered_word");
+    assert!(passes(&copy));
+    let path = copy.join("n08_m03.txt");
+    let content = text("n08_m03.txt");
+    let index = content.lines().position(|line| line.starts_with("a 1 "));
+    let index = index.expect("a line of a");
+    let line = content.lines().nth(index).expect("this line");
+    let line = altered(line, 2);
+    fs::write(&path, with_line(&content, index, &line)).expect("written");
+    assert!(!passes(&copy));
+    let found = difference("n08_m03.txt", &fs::read_to_string(&path).expect("read"));
+    let place = format!("a, line {}, word 11: prove, a, word ", index + 1);
+    assert!(found.is_some_and(|text| text.starts_with(&place)));
+}
+
+#[test]
+fn altered_byte_of_key_a() {
+    let name = "key_a.check";
+    let copy = copied("altered_byte");
+    let bytes = fs::read(copy.join(name)).expect("read");
+    let mut unchanged = 0;
+    for at in 0..bytes.len() {
+        let mut bytes = bytes.clone();
+        bytes[at] ^= 1;
+        let setting = Setting {
+            entries: ALL,
+            program: None,
+            spoil: None,
+        };
+        let outcome = compare(&setting, name, &bytes, &mut Generator::new(1));
+        // With the weights of key A row 1 of t and q cancels out: 25 bytes.
+        let same = reference::perkcheck_line(&bytes) == "serial 7 n 2 m 1 accepted\n";
+        assert_eq!(outcome.difference.is_none(), same, "byte {at}");
+        unchanged += usize::from(same);
+    }
+    assert_eq!(unchanged, 25);
+    fs::write(copy.join(name), &bytes[1..]).expect("written");
+    assert!(!passes(&copy));
+}
+
+#[test]
+fn missing_file() {
+    let copy = copied("missing_file");
+    fs::remove_file(copy.join("n17_m08.txt")).expect("removed");
+    assert!(!passes(&copy));
+}
+
+#[test]
+fn unknown_file() {
+    let copy = copied("unknown_file");
+    fs::copy(copy.join("n03_m01.txt"), copy.join("n04_m01.txt")).expect("a copy");
+    assert!(!passes(&copy));
+}
+
+#[test]
+fn empty_files() {
+    for content in ["", "\n"] {
+        assert!(difference("n02_m01.txt", content).is_some());
+    }
+    assert!(difference("key_a.check", "").is_some());
+}
+
+/// The names whose words are no results of the library.
+const INPUTS: &[&str] = &[
+    "n",
+    "m",
+    "d",
+    "serial",
+    "h",
+    "x",
+    "positions",
+    "u",
+    "v",
+    "r",
+    "s",
+    "alpha",
+    "delta",
+    "wrong_positions",
+];
+
+#[test]
+fn every_word_altered() {
+    for name in ["n02_m01.txt", "n03_m01.txt"] {
+        let content = text(name);
+        assert_eq!(difference(name, &content), None);
+        for (index, line) in content.lines().enumerate() {
+            let words: Vec<&str> = line.split(' ').collect();
+            for word in 1..words.len() {
+                // A file with another changed byte is rejected too.
+                if words[0] == "change" && word == 3 && words[10] == "rejected" {
+                    continue;
+                }
+                let other = with_line(&content, index, &altered(line, word));
+                let found = difference(name, &other);
+                assert!(found.is_some(), "{name}, line {}: {line}", index + 1);
+                let found = found.unwrap_or_default();
+                let place = format!("line {}", index + 1);
+                let named = INPUTS.contains(&words[0]) || found.contains(&place);
+                assert!(named, "{name}, line {}, {line}: {found}", index + 1);
+            }
+        }
+    }
+}
+
+#[test]
+fn every_digit_of_bytes_altered() {
+    let name = "n02_m01.txt";
+    let content = text(name);
+    for (index, line) in content.lines().enumerate() {
+        let first = line.split(' ').next().unwrap_or_default();
+        if !["file", "tampered_file"].contains(&first) {
+            continue;
+        }
+        for at in first.len() + 1..line.len() {
+            let digit = if &line[at..=at] == "0" { "1" } else { "0" };
+            let other = [&line[..at], digit, &line[at + 1..]].concat();
+            let found = difference(name, &with_line(&content, index, &other));
+            assert!(found.is_some(), "line {}, column {at}", index + 1);
+        }
+    }
+}
+
+#[test]
+fn other_lines() {
+    let name = "n05_m02.txt";
+    let content = text(name);
+    let lines: Vec<&str> = content.lines().collect();
+    for index in 0..lines.len() {
+        let first = lines[index].split(' ').next();
+        let mut without = lines.clone();
+        without.remove(index);
+        let mut twice = lines.clone();
+        twice.insert(index, lines[index]);
+        let mut unknown = lines.clone();
+        unknown.insert(index, "other 0");
+        for list in [without, twice, unknown] {
+            let other = list.join("\n") + "\n";
+            assert!(difference(name, &other).is_some(), "{first:?}, {index}");
+        }
+    }
+    // The name of the file, the end of the last line, and unknown names.
+    assert!(difference("n05_m03.txt", &content).is_some());
+    assert!(difference(name, content.trim_end()).is_some());
+    assert!(difference(name, &(content.clone() + "other 0\n")).is_some());
+    assert!(difference(name, &content.replace("\nline ", "\nlines ")).is_some());
+}
+
+/// The entries that the vectors call.
+fn entries() -> Vec<Entry> {
+    vec![
+        field::SUM,
+        field::PRODUCT,
+        constraints::CONSTRAINTS,
+        prove::PROVE,
+        constraints::VALUES,
+        verify::VERIFY,
+        readers::READ_PACKAGE,
+        readers::READ_CHECK_FILE,
+        package_field::FIELD,
+        check::CHECK,
+    ]
+}
+
+/// Whether the vectors pass with these entries.
+fn entries_pass(entries: &[Entry]) -> bool {
+    let name = "n05_m02.txt";
+    outcome(entries, name, &text(name)).difference.is_none()
+}
+
+#[test]
+fn wrong_answers() {
+    assert!(entries_pass(&entries()));
+    for index in 0..entries().len() {
+        let mut entries = entries();
+        entries[index].library = |_, _, _| 3;
+        assert!(!entries_pass(&entries), "{}", entries[index].name);
+        // Nothing is written, nothing rejected or refused.
+        entries[index].library = |_, _, _| 0;
+        assert!(!entries_pass(&entries), "{}", entries[index].name);
+    }
+}
+
+/// The entry with one bit changed in the last element of an output.
+macro_rules! changed {
+    ($entry:expr, $output:expr) => {
+        Entry {
+            library: |numbers, inputs, outputs| {
+                let answer = ($entry.library)(numbers, inputs, outputs);
+                let last = outputs[$output].len() - 1;
+                outputs[$output].change(last, 0);
+                answer
+            },
+            ..$entry
+        }
+    };
+}
+
+#[test]
+fn wrong_outputs() {
+    for (index, entry) in [
+        (0, changed!(field::SUM, 0)),
+        (1, changed!(field::PRODUCT, 0)),
+        (2, changed!(constraints::CONSTRAINTS, 0)),
+        (2, changed!(constraints::CONSTRAINTS, 1)),
+        (3, changed!(prove::PROVE, 0)),
+        (3, changed!(prove::PROVE, 1)),
+        (4, changed!(constraints::VALUES, 0)),
+        (6, changed!(readers::READ_PACKAGE, 0)),
+        (6, changed!(readers::READ_PACKAGE, 1)),
+        (6, changed!(readers::READ_PACKAGE, 2)),
+        (7, changed!(readers::READ_CHECK_FILE, 0)),
+        (7, changed!(readers::READ_CHECK_FILE, 1)),
+        (7, changed!(readers::READ_CHECK_FILE, 2)),
+        (8, changed!(package_field::FIELD, 0)),
+        (8, changed!(package_field::FIELD, 1)),
+        (8, changed!(package_field::FIELD, 2)),
+    ] {
+        let mut entries = entries();
+        assert_eq!(entries[index].name, entry.name);
+        entries[index] = entry;
+        assert!(!entries_pass(&entries), "{}", entries[index].name);
+    }
+}
+
+#[test]
+fn wrong_line_of_the_program() {
+    let name = "n02_m01.txt";
+    let setting = Setting {
+        entries: ALL,
+        // It prints nothing.
+        program: Some(Path::new("true")),
+        spoil: None,
+    };
+    let content = text(name);
+    let outcome = compare(&setting, name, content.as_bytes(), &mut Generator::new(1));
+    let place = "line, line 31, word 6: perkcheck prints";
+    let found = outcome.difference.unwrap_or_default();
+    assert!(found.starts_with(place), "{found}");
+}
+
+#[test]
+fn entry_missing() {
+    assert!(!entries_pass(&entries()[1..]));
+}
+
+#[test]
+fn expected_word_altered() {
+    for n in [0, 3, 1_000] {
+        let mut run = Run::new(1, Some(n));
+        run.vectors(&directory(), ALL, None);
+        assert_eq!(run.altered_words(), [1, 1, 0]);
+        assert!(!run.finish());
+    }
+}

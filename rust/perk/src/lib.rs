@@ -1,0 +1,385 @@
+//! The PERK permutation proof in its digit form: the proved library libperk.a,
+//! called with slices and enums.
+//!
+//! Each function calls the C function of its name. That function is proved, for
+//! every content and every length of its slices, to read and write nothing
+//! else, to end, and to answer as stated here. What this crate adds is not
+//! proved: pointers and lengths, enums for numbers, and functions that work out
+//! lengths for the caller. It needs no `std` and no heap.
+//!
+//! # Elements
+//!
+//! An element of F is a number 0 to 2047 whose bit i is the coefficient of z^i,
+//! with z^11 = z^2 + 1. An element of K is [`WORDS`] = 12 words, coordinate 0
+//! first, each an element of F, with Y^12 = Y^3 + 1. Several elements stand one
+//! after another. Bits, offsets and the numbers q have d places for each of n
+//! rows, row after row, place 0 (the highest digit) first; [`digits`] gives d.
+//!
+//! # Refusals
+//!
+//! A function refuses with the first [`Refusal`] that applies, in the order in
+//! which it lists them, and then every output holds what it held before. A
+//! proof that is [`Verdict::Rejected`] is no refusal: it is `Ok`.
+//!
+//! # Example
+//!
+//! Key A of the specification, with n = 2, so d is 1 and there are no masks:
+//!
+//! ```
+//! use perk::{Key, Masks, Prover, Verdict};
+//!
+//! # fn main() -> Result<(), perk::Refusal> {
+//! // an element of F, as an element of K
+//! let k = |f: u16| [f, 0, 0, 0, 0, 0, 0, 0, 0, 0, 0, 0];
+//!
+//! let key = Key { n: 2, m: 1, h: &[2, 1], x: &[1, 2] };
+//! let alpha = [k(1), k(2), k(1)].concat();
+//!
+//! let prover = Prover { positions: &[0, 1], u: &[1, 0], v: &[k(1), k(4)].concat() };
+//! let masks = Masks { r: &[], s: &[] };
+//! let mut t = [0; 2];
+//! let mut a = [0; perk::WORDS];
+//! perk::prove(key, prover, masks, &alpha, &mut t, &mut a)?;
+//! assert_eq!((t, a), ([1, 1], k(5)));
+//!
+//! let q = [k(3), k(4)].concat();
+//! let verdict = perk::verify(key, &t, &q, &k(2), &[], &alpha, &a)?;
+//! assert_eq!(verdict, Verdict::Accepted);
+//! # Ok(())
+//! # }
+//! ```
+#![no_std]
+#![deny(missing_docs)]
+#![deny(unsafe_op_in_unsafe_fn)]
+#![deny(clippy::undocumented_unsafe_blocks)]
+
+mod c;
+mod package;
+mod refusal;
+
+pub use package::{check, field, read_check_file, read_package, Contents};
+pub use refusal::{Refusal, Verdict};
+
+/// The words of an element of K.
+pub const WORDS: usize = 12;
+
+/// d: the number of binary digits of n - 1, from which the lengths of slices
+/// follow. It is 1 for n = 2, 2 for n = 3 and 6 for n = 64, and 0 for the sizes
+/// 0 and 1, which every function refuses.
+pub const fn digits(n: usize) -> usize {
+    (usize::BITS - n.saturating_sub(1).leading_zeros()) as usize
+}
+
+/// A key.
+#[derive(Clone, Copy, Debug, PartialEq, Eq)]
+pub struct Key<'a> {
+    /// The number of positions, 2 to 64.
+    pub n: usize,
+    /// The number of rows of H, 1 to n - 1.
+    pub m: usize,
+    /// H: m n words, m rows of n elements of F, row after row.
+    pub h: &'a [u16],
+    /// x: n words, n elements of F.
+    pub x: &'a [u16],
+}
+
+/// What the prover holds for a key. All of it is secret, so it is not printed
+/// by `Debug`.
+#[derive(Clone, Copy)]
+pub struct Prover<'a> {
+    /// n bytes, each below 2^d: position i says which entry of x becomes
+    /// entry i.
+    pub positions: &'a [u8],
+    /// The mask bits: n d bytes, each 0 or 1.
+    pub u: &'a [u8],
+    /// The offsets: 12 n d words.
+    pub v: &'a [u16],
+}
+
+/// The prover's masks, which are secret as well; empty where n is 2.
+#[derive(Clone, Copy)]
+pub struct Masks<'a> {
+    /// 12 (d - 1) words.
+    pub r: &'a [u16],
+    /// 12 (d - 1) words.
+    pub s: &'a [u16],
+}
+
+/// `out` becomes a + b in K. Each of the three has 12 words.
+///
+/// # Errors
+///
+/// [`Length`](Refusal::Length) (`a`, `b`, `out`),
+/// [`Coordinate`](Refusal::Coordinate) (`a`, `b`).
+pub fn sum(a: &[u16], b: &[u16], out: &mut [u16]) -> Result<(), Refusal> {
+    // SAFETY: each pointer and length are those of one slice, so they name
+    // aligned memory that is valid to read, and for `out` to write. `out` is an
+    // exclusive borrow, so it overlaps neither input.
+    refusal::answer(unsafe {
+        c::perk_sum(
+            a.as_ptr(),
+            a.len(),
+            b.as_ptr(),
+            b.len(),
+            out.as_mut_ptr(),
+            out.len(),
+        )
+    })
+}
+
+/// `out` becomes a times b in K. Each of the three has 12 words.
+///
+/// # Errors
+///
+/// [`Length`](Refusal::Length) (`a`, `b`, `out`),
+/// [`Coordinate`](Refusal::Coordinate) (`a`, `b`).
+pub fn product(a: &[u16], b: &[u16], out: &mut [u16]) -> Result<(), Refusal> {
+    // SAFETY: each pointer and length are those of one slice, so they name
+    // aligned memory that is valid to read, and for `out` to write. `out` is an
+    // exclusive borrow, so it overlaps neither input.
+    refusal::answer(unsafe {
+        c::perk_product(
+            a.as_ptr(),
+            a.len(),
+            b.as_ptr(),
+            b.len(),
+            out.as_mut_ptr(),
+            out.len(),
+        )
+    })
+}
+
+/// Writes the masked witness and the n + m constraint polynomials of a key.
+///
+/// - `t`: n d bytes; digit k of position i, highest first, exclusive-or u(i,k).
+/// - `polynomials`: 12 (n + m) (d + 1) words; polynomial 0 first, d + 1
+///   coefficients each, that of X^0 first.
+///
+/// Positions from n to 2^d - 1 are taken.
+///
+/// Proved of what is written: the top coefficients of all n + m polynomials are
+/// zero exactly when the positions are 0 to n - 1, each once, and H times x in
+/// that order is zero. And where [`values`] is given this key, this `t`, a
+/// challenge delta, and q with each q(i,k) = u(i,k) delta + v(i,k), value j is
+/// polynomial j at delta.
+///
+/// No branch and no address is meant to depend on what the prover holds, other
+/// than the decision to refuse; this is not part of the proof. Stack: under
+/// 20 KiB.
+///
+/// # Errors
+///
+/// [`Size`](Refusal::Size), [`Rows`](Refusal::Rows),
+/// [`Length`](Refusal::Length) (all seven slices), [`Key`](Refusal::Key)
+/// (`h`, `x`), [`Bit`](Refusal::Bit) (`u`),
+/// [`Coordinate`](Refusal::Coordinate) (`v`),
+/// [`Position`](Refusal::Position).
+pub fn constraints(
+    key: Key<'_>,
+    prover: Prover<'_>,
+    t: &mut [u8],
+    polynomials: &mut [u16],
+) -> Result<(), Refusal> {
+    let Key { n, m, h, x } = key;
+    let Prover { positions, u, v } = prover;
+    // SAFETY: each pointer and length are those of one slice, so they name
+    // aligned memory that is valid to read, and for `t` and `polynomials` to
+    // write. These two are exclusive borrows, so neither overlaps any other
+    // slice.
+    refusal::answer(unsafe {
+        c::perk_constraints(
+            n,
+            m,
+            h.as_ptr(),
+            h.len(),
+            x.as_ptr(),
+            x.len(),
+            positions.as_ptr(),
+            positions.len(),
+            u.as_ptr(),
+            u.len(),
+            v.as_ptr(),
+            v.len(),
+            t.as_mut_ptr(),
+            t.len(),
+            polynomials.as_mut_ptr(),
+            polynomials.len(),
+        )
+    })
+}
+
+/// Writes the verifier's n + m values of a key.
+///
+/// - `t`: the masked witness, n d bytes.
+/// - `q`: the verifier's numbers, 12 n d words.
+/// - `delta`: the challenge, 12 words.
+/// - `values`: 12 (n + m) words, written; value 0 first.
+///
+/// Stack: under 20 KiB.
+///
+/// # Errors
+///
+/// [`Size`](Refusal::Size), [`Rows`](Refusal::Rows),
+/// [`Length`](Refusal::Length) (all six slices), [`Key`](Refusal::Key) (`h`,
+/// `x`), [`Bit`](Refusal::Bit) (`t`), [`Coordinate`](Refusal::Coordinate)
+/// (`q`, `delta`).
+pub fn values(
+    key: Key<'_>,
+    t: &[u8],
+    q: &[u16],
+    delta: &[u16],
+    values: &mut [u16],
+) -> Result<(), Refusal> {
+    let Key { n, m, h, x } = key;
+    // SAFETY: each pointer and length are those of one slice, so they name
+    // aligned memory that is valid to read, and for `values` to write. `values`
+    // is an exclusive borrow, so it overlaps no input.
+    refusal::answer(unsafe {
+        c::perk_values(
+            n,
+            m,
+            h.as_ptr(),
+            h.len(),
+            x.as_ptr(),
+            x.len(),
+            t.as_ptr(),
+            t.len(),
+            q.as_ptr(),
+            q.len(),
+            delta.as_ptr(),
+            delta.len(),
+            values.as_mut_ptr(),
+            values.len(),
+        )
+    })
+}
+
+/// Writes the masked witness and the proof of a key.
+///
+/// - `alpha`: the weights, 12 (n + m) words.
+/// - `t`: n d bytes, written as by [`constraints`].
+/// - `a`: 12 d words, written; the d coefficients below X^d, that of X^0 first,
+///   of the sum of alpha(j) times polynomial j plus the sum over k below d - 1
+///   of X^k (s(k) X + r(k)).
+///
+/// Proved besides: past the refusals up to `Position` it is done exactly when
+/// the positions are 0 to n - 1, each once, and H times x in that order is zero,
+/// and refuses with `Top` exactly when they are not. And wherever it is done,
+/// [`verify`] accepts `t` and `a` with the same key and weights, any challenge
+/// delta, each q(i,k) = u(i,k) delta + v(i,k) and each
+/// masks(k) = s(k) delta + r(k).
+///
+/// No branch and no address is meant to depend on what the prover holds, masks
+/// included, other than the decision to refuse; this is not part of the proof.
+/// Stack: under 48 KiB.
+///
+/// # Errors
+///
+/// [`Size`](Refusal::Size), [`Rows`](Refusal::Rows),
+/// [`Length`](Refusal::Length) (all ten slices), [`Key`](Refusal::Key) (`h`,
+/// `x`), [`Bit`](Refusal::Bit) (`u`), [`Coordinate`](Refusal::Coordinate)
+/// (`v`, `r`, `s`, `alpha`), [`Position`](Refusal::Position), and then
+/// [`Top`](Refusal::Top), found before anything is written, whatever the
+/// weights are.
+pub fn prove(
+    key: Key<'_>,
+    prover: Prover<'_>,
+    masks: Masks<'_>,
+    alpha: &[u16],
+    t: &mut [u8],
+    a: &mut [u16],
+) -> Result<(), Refusal> {
+    let Key { n, m, h, x } = key;
+    let Prover { positions, u, v } = prover;
+    let Masks { r, s } = masks;
+    // SAFETY: each pointer and length are those of one slice, so they name
+    // aligned memory that is valid to read, and for `t` and `a` to write. These
+    // two are exclusive borrows, so neither overlaps any other slice.
+    refusal::answer(unsafe {
+        c::perk_prove(
+            n,
+            m,
+            h.as_ptr(),
+            h.len(),
+            x.as_ptr(),
+            x.len(),
+            positions.as_ptr(),
+            positions.len(),
+            u.as_ptr(),
+            u.len(),
+            v.as_ptr(),
+            v.len(),
+            r.as_ptr(),
+            r.len(),
+            s.as_ptr(),
+            s.len(),
+            alpha.as_ptr(),
+            alpha.len(),
+            t.as_mut_ptr(),
+            t.len(),
+            a.as_mut_ptr(),
+            a.len(),
+        )
+    })
+}
+
+/// Whether a proof is accepted: exactly when `a` at the challenge equals the
+/// sum of alpha(j) times value j plus the sum over k below d - 1 of delta^k
+/// masks(k). Otherwise it is rejected, which is no refusal. The power 0 is one,
+/// for delta zero too.
+///
+/// - `t`: the masked witness, n d bytes.
+/// - `q`: the verifier's numbers, 12 n d words.
+/// - `delta`: the challenge, 12 words.
+/// - `masks`: the mask numbers, 12 (d - 1) words.
+/// - `alpha`: the weights, 12 (n + m) words.
+/// - `a`: the proof, 12 d words.
+///
+/// Accepted means that this equation holds. It does not by itself mean that a
+/// signature is valid: the challenge, the weights and the correlations are the
+/// caller's, who must take the challenge only after the prover's commitment and
+/// check that the correlations are consistent.
+///
+/// Stack: under 24 KiB.
+///
+/// # Errors
+///
+/// [`Size`](Refusal::Size), [`Rows`](Refusal::Rows),
+/// [`Length`](Refusal::Length) (all eight slices), [`Key`](Refusal::Key) (`h`,
+/// `x`), [`Bit`](Refusal::Bit) (`t`), [`Coordinate`](Refusal::Coordinate)
+/// (`q`, `delta`, `masks`, `alpha`, `a`).
+pub fn verify(
+    key: Key<'_>,
+    t: &[u8],
+    q: &[u16],
+    delta: &[u16],
+    masks: &[u16],
+    alpha: &[u16],
+    a: &[u16],
+) -> Result<Verdict, Refusal> {
+    let Key { n, m, h, x } = key;
+    // SAFETY: each pointer and length are those of one slice, so they name
+    // aligned memory that is valid to read. Nothing is written.
+    refusal::verdict(unsafe {
+        c::perk_verify(
+            n,
+            m,
+            h.as_ptr(),
+            h.len(),
+            x.as_ptr(),
+            x.len(),
+            t.as_ptr(),
+            t.len(),
+            q.as_ptr(),
+            q.len(),
+            delta.as_ptr(),
+            delta.len(),
+            masks.as_ptr(),
+            masks.len(),
+            alpha.as_ptr(),
+            alpha.len(),
+            a.as_ptr(),
+            a.len(),
+        )
+    })
+}

@@ -1,0 +1,120 @@
+//! Packages and check files.
+
+use crate::refusal::{self, Refusal, Verdict};
+use crate::{c, digits};
+
+/// The sizes and the serial of a package or a check file.
+#[derive(Clone, Copy, Debug, PartialEq, Eq)]
+pub struct Contents {
+    /// The number of positions, 2 to 64.
+    pub n: usize,
+    /// The number of rows of H, 1 to n - 1.
+    pub m: usize,
+    /// The serial, 0 to 65535.
+    pub serial: u32,
+}
+
+impl Contents {
+    /// The number of bytes of a package of these sizes. The package of a check
+    /// file is as many bytes of it, from the first on.
+    pub const fn package_len(&self) -> usize {
+        let Contents { n, m, .. } = *self;
+        let d = digits(n);
+        let contents = 2 + 2 * m * n + 2 * n + 2 + n * d + 24 * d;
+        6 * 3 + contents
+    }
+}
+
+/// A function of libperk.a that reads n, m and the serial.
+type Reader = unsafe extern "C" fn(*const u8, usize, *mut u32, *mut u32, *mut u32) -> u32;
+
+/// The answer of a reader, which is `perk_read_package` or
+/// `perk_read_check_file`.
+fn read(reader: Reader, bytes: &[u8]) -> Result<Contents, Refusal> {
+    let (mut n, mut m, mut serial) = (0, 0, 0);
+    // SAFETY: both readers take the pointer and the length of one slice, so
+    // memory that is valid to read. The three outputs are exclusive borrows of
+    // different variables, so none overlaps another or the slice.
+    let number = unsafe { reader(bytes.as_ptr(), bytes.len(), &mut n, &mut m, &mut serial) };
+    refusal::answer(number).map(|()| Contents {
+        n: n as usize,
+        m: m as usize,
+        serial,
+    })
+}
+
+/// The sizes and the serial of a package.
+///
+/// A field is a tag of one byte, a length of two bytes and the content; numbers
+/// of two bytes are highest byte first. A package has exactly these fields, in
+/// this order:
+///
+/// | Tag | Content | Bytes |
+/// |---|---|---|
+/// | 01 | n, m | 2 |
+/// | 02 | H | 2 m n |
+/// | 03 | x | 2 n |
+/// | 05 | the serial, any value | 2 |
+/// | 06 | t | n d |
+/// | 07 | a | 24 d |
+///
+/// # Errors
+///
+/// For each field in turn: [`Short`](Refusal::Short) when fewer than 3 bytes
+/// remain, [`Tag`](Refusal::Tag), [`Field`](Refusal::Field) for another length,
+/// [`Short`](Refusal::Short) when fewer bytes remain than the length, and then
+/// for the content [`Size`](Refusal::Size) and [`Rows`](Refusal::Rows) (n, m),
+/// [`Key`](Refusal::Key) (H, x), [`Bit`](Refusal::Bit) (t) and
+/// [`Coordinate`](Refusal::Coordinate) (a). After the last field
+/// [`End`](Refusal::End).
+pub fn read_package(bytes: &[u8]) -> Result<Contents, Refusal> {
+    read(c::perk_read_package, bytes)
+}
+
+/// The sizes and the serial of a check file: a package as for
+/// [`read_package`], followed by these fields, in this order.
+///
+/// | Tag | Content | Bytes |
+/// |---|---|---|
+/// | 11 | q | 24 n d |
+/// | 12 | the mask numbers | 24 (d - 1), none where n is 2 |
+/// | 13 | delta | 24 |
+/// | 14 | alpha | 24 (n + m) |
+///
+/// Tags are hexadecimal.
+///
+/// # Errors
+///
+/// Those of [`read_package`] in the same order, for all ten fields in turn, with
+/// [`Coordinate`](Refusal::Coordinate) for the content of the last four. After
+/// the last field [`End`](Refusal::End).
+pub fn read_check_file(bytes: &[u8]) -> Result<Contents, Refusal> {
+    read(c::perk_read_check_file, bytes)
+}
+
+/// The content of the field with this tag in a package: the caller's own bytes.
+/// It is empty for a package that [`read_package`] refuses, and for a tag that a
+/// package does not have; no field of a package is empty.
+///
+/// A check file is no package; [`Contents::package_len`] says how many of its
+/// bytes are one.
+pub fn field(bytes: &[u8], tag: u8) -> &[u8] {
+    let mut start = 0;
+    // SAFETY: the pointer and the length are those of one slice, so they name
+    // memory that is valid to read. `start` is an exclusive borrow of a
+    // variable, so it does not overlap the slice.
+    let len = unsafe { c::perk_field(bytes.as_ptr(), bytes.len(), tag, &mut start) };
+    &bytes[start..start + len]
+}
+
+/// Whether the proof in a check file is accepted: as [`verify`](crate::verify)
+/// decides for its key, t, q, delta, mask numbers, alpha and a.
+///
+/// # Errors
+///
+/// Those of [`read_check_file`], in the same order.
+pub fn check(bytes: &[u8]) -> Result<Verdict, Refusal> {
+    // SAFETY: the pointer and the length are those of one slice, so they name
+    // memory that is valid to read. Nothing is written.
+    refusal::verdict(unsafe { c::perk_check(bytes.as_ptr(), bytes.len()) })
+}

@@ -1,0 +1,229 @@
+//! Words of elements of K, and the keys that the tests use.
+#![allow(dead_code)]
+
+use perk::{Key, Masks, Prover, Refusal, Verdict, WORDS};
+
+/// What outputs hold before a call.
+pub const WORD: u16 = 0xBEEF;
+pub const BYTE: u8 = 0xA5;
+
+/// Elements of K that are elements of F, as words: each in coordinate 0.
+pub fn words(elements: &[u16]) -> Vec<u16> {
+    let mut words = vec![0; WORDS * elements.len()];
+    for (word, element) in words.iter_mut().step_by(WORDS).zip(elements) {
+        *word = *element;
+    }
+    words
+}
+
+/// The element of K with ones in these coordinates.
+pub fn ones(coordinates: &[usize]) -> Vec<u16> {
+    let mut element = vec![0; WORDS];
+    for coordinate in coordinates {
+        element[*coordinate] = 1;
+    }
+    element
+}
+
+/// Everything that the functions of a key take and write.
+#[derive(Clone)]
+pub struct Case {
+    pub n: usize,
+    pub m: usize,
+    pub h: Vec<u16>,
+    pub x: Vec<u16>,
+    pub positions: Vec<u8>,
+    pub u: Vec<u8>,
+    pub v: Vec<u16>,
+    pub r: Vec<u16>,
+    pub s: Vec<u16>,
+    pub alpha: Vec<u16>,
+    pub q: Vec<u16>,
+    pub delta: Vec<u16>,
+    pub masks: Vec<u16>,
+    /// The masked witness and the proof that the verifier takes.
+    pub t: Vec<u8>,
+    pub a: Vec<u16>,
+    /// Outputs.
+    pub t_out: Vec<u8>,
+    pub polynomials: Vec<u16>,
+    pub a_out: Vec<u16>,
+    pub values: Vec<u16>,
+}
+
+impl Case {
+    /// Key A of the specification, positions 0 1, a = 5.
+    pub fn key_a() -> Case {
+        Case {
+            n: 2,
+            m: 1,
+            h: vec![2, 1],
+            x: vec![1, 2],
+            positions: vec![0, 1],
+            u: vec![1, 0],
+            v: words(&[1, 4]),
+            r: vec![],
+            s: vec![],
+            alpha: words(&[1, 2, 1]),
+            q: words(&[3, 4]),
+            delta: words(&[2]),
+            masks: vec![],
+            t: vec![1, 1],
+            a: words(&[5]),
+            t_out: vec![BYTE; 2],
+            polynomials: vec![WORD; 12 * 3 * 2],
+            a_out: vec![WORD; 12],
+            values: vec![WORD; 12 * 3],
+        }
+    }
+
+    /// n = 3, m = 1, H = (1 1 1), x = (1 2 3), positions 2 0 1: every order
+    /// solves this key, since 1 + 2 + 3 is 0. The offsets are 1 for digit 0 and
+    /// 0 for digit 1, so z(i,j) is the product of its two bits times X^2 plus
+    /// the second bit times X.
+    pub fn three() -> Case {
+        Case {
+            n: 3,
+            m: 1,
+            h: vec![1, 1, 1],
+            x: vec![1, 2, 3],
+            positions: vec![2, 0, 1],
+            u: vec![0, 1, 1, 1, 0, 0],
+            v: words(&[1, 0, 1, 0, 1, 0]),
+            r: words(&[8]),
+            s: words(&[16]),
+            alpha: words(&[1, 4, 1, 1]),
+            q: words(&[1, 2, 3, 2, 1, 0]),
+            delta: words(&[2]),
+            masks: words(&[40]),
+            t: vec![1, 1, 1, 1, 0, 1],
+            a: words(&[8, 22]),
+            t_out: vec![BYTE; 6],
+            polynomials: vec![WORD; 12 * 4 * 3],
+            a_out: vec![WORD; 12 * 2],
+            values: vec![WORD; 12 * 4],
+        }
+    }
+
+    /// n = 64 with H, x, offsets, masks and weights zero, positions 0 to 63: all
+    /// polynomials are zero, and so is the proof.
+    pub fn zero_64(m: usize) -> Case {
+        let (n, d) = (64, 6);
+        let positions: Vec<u8> = (0..64).collect();
+        let digits = |position: &u8| (0..6).map(|k| position >> (5 - k) & 1).collect::<Vec<_>>();
+        Case {
+            n,
+            m,
+            h: vec![0; m * n],
+            x: vec![0; n],
+            t: positions.iter().flat_map(digits).collect(),
+            positions,
+            u: vec![0; n * d],
+            v: vec![0; 12 * n * d],
+            r: vec![0; 12 * (d - 1)],
+            s: vec![0; 12 * (d - 1)],
+            alpha: vec![0; 12 * (n + m)],
+            q: vec![0; 12 * n * d],
+            delta: vec![0; 12],
+            masks: vec![0; 12 * (d - 1)],
+            a: vec![0; 12 * d],
+            t_out: vec![BYTE; n * d],
+            polynomials: vec![WORD; 12 * (n + m) * (d + 1)],
+            a_out: vec![WORD; 12 * d],
+            values: vec![WORD; 12 * (n + m)],
+        }
+    }
+
+    pub fn constraints(&mut self) -> Result<(), Refusal> {
+        let key = Key {
+            n: self.n,
+            m: self.m,
+            h: &self.h,
+            x: &self.x,
+        };
+        let prover = Prover {
+            positions: &self.positions,
+            u: &self.u,
+            v: &self.v,
+        };
+        perk::constraints(key, prover, &mut self.t_out, &mut self.polynomials)
+    }
+
+    pub fn values(&mut self) -> Result<(), Refusal> {
+        let key = Key {
+            n: self.n,
+            m: self.m,
+            h: &self.h,
+            x: &self.x,
+        };
+        perk::values(key, &self.t, &self.q, &self.delta, &mut self.values)
+    }
+
+    pub fn prove(&mut self) -> Result<(), Refusal> {
+        let key = Key {
+            n: self.n,
+            m: self.m,
+            h: &self.h,
+            x: &self.x,
+        };
+        let prover = Prover {
+            positions: &self.positions,
+            u: &self.u,
+            v: &self.v,
+        };
+        let masks = Masks {
+            r: &self.r,
+            s: &self.s,
+        };
+        perk::prove(
+            key,
+            prover,
+            masks,
+            &self.alpha,
+            &mut self.t_out,
+            &mut self.a_out,
+        )
+    }
+
+    pub fn verify(&mut self) -> Result<Verdict, Refusal> {
+        let key = Key {
+            n: self.n,
+            m: self.m,
+            h: &self.h,
+            x: &self.x,
+        };
+        perk::verify(
+            key,
+            &self.t,
+            &self.q,
+            &self.delta,
+            &self.masks,
+            &self.alpha,
+            &self.a,
+        )
+    }
+
+    /// Whether every output holds what it held before.
+    pub fn nothing_written(&self) -> bool {
+        self.t_out.iter().all(|byte| *byte == BYTE)
+            && [&self.polynomials, &self.a_out, &self.values]
+                .iter()
+                .all(|output| output.iter().all(|word| *word == WORD))
+    }
+
+    /// The top coefficients of the polynomials, coordinate 0 of each; its other
+    /// coordinates must be zero.
+    pub fn tops(&self) -> Vec<u16> {
+        let coefficients = perk::digits(self.n) + 1;
+        let tops = self
+            .polynomials
+            .chunks(WORDS)
+            .skip(coefficients - 1)
+            .step_by(coefficients);
+        tops.map(|top| {
+            assert_eq!(top[1..], [0; 11]);
+            top[0]
+        })
+        .collect()
+    }
+}

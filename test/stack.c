@@ -1,0 +1,96 @@
+/*
+ * The stack that each function of perk.h takes at the largest sizes, by painting a thread's stack before the call: prints it, and
+ * fails where it is above what perk.h states.
+ *
+ * usage: stack CHECK_FILE    (an accepted check file with n = 64, m = 63)
+ */
+#include <pthread.h>
+#include <stdio.h>
+#include <stdlib.h>
+#include <string.h>
+#include "perk.h"
+
+enum { N = 64, M = 63, D = 6, W = 12, SIZE = 1 << 20, PAINT = 0xA5 };
+
+static uint16_t h[M * N], x[N], v[W * N * D], r[W * (D - 1)], s[W * (D - 1)], alpha[W * (N + M)], a[W * D], q[W * N * D];
+static uint16_t delta[W], masks[W * (D - 1)], polynomials[W * (N + M) * (D + 1)], values[W * (N + M)], out[W];
+static uint8_t positions[N], u[N * D], t[N * D], file[32768];
+static size_t file_len;
+
+static uint32_t nothing(void) { return 0; }
+static uint32_t product(void) { return perk_product(delta, W, delta, W, out, W); }
+static uint32_t constraints(void) {
+    return perk_constraints(N, M, h, M * N, x, N, positions, N, u, N * D, v, W * N * D, t, N * D, polynomials, W * (N + M) * (D + 1));
+}
+static uint32_t value(void) {
+    return perk_values(N, M, h, M * N, x, N, t, N * D, q, W * N * D, delta, W, values, W * (N + M));
+}
+static uint32_t prove(void) {
+    return perk_prove(N, M, h, M * N, x, N, positions, N, u, N * D, v, W * N * D, r, W * (D - 1), s, W * (D - 1), alpha, W * (N + M), t,
+                      N * D, a, W * D);
+}
+static uint32_t verify(void) {
+    return perk_verify(N, M, h, M * N, x, N, t, N * D, q, W * N * D, delta, W, masks, W * (D - 1), alpha, W * (N + M), a, W * D);
+}
+static uint32_t read_check_file(void) {
+    uint32_t n, m, serial;
+    return perk_read_check_file(file, file_len, &n, &m, &serial);
+}
+static uint32_t field(void) {
+    size_t start;
+    return (uint32_t)perk_field(file, file_len, 7, &start);
+}
+static uint32_t check(void) { return perk_check(file, file_len); }
+
+static uint32_t (*function)(void);
+static uint32_t result;
+
+static void *run(void *unused) {
+    result = function();
+    return unused;
+}
+
+/* the bytes of a painted stack that a call has changed */
+static size_t used(uint32_t (*f)(void)) {
+    unsigned char *stack;
+    pthread_attr_t attributes;
+    pthread_t thread;
+    function = f;
+    if (posix_memalign((void **)&stack, 4096, SIZE) != 0) exit(2);
+    memset(stack, PAINT, SIZE);
+    if (pthread_attr_init(&attributes) != 0 || pthread_attr_setstack(&attributes, stack, SIZE) != 0 ||
+        pthread_create(&thread, &attributes, run, NULL) != 0 || pthread_join(thread, NULL) != 0)
+        exit(2);
+    size_t free_bytes = 0;
+    while (free_bytes < SIZE && stack[free_bytes] == PAINT) free_bytes++;
+    free(stack);
+    return SIZE - free_bytes;
+}
+
+int main(int argc, char **argv) {
+    static const struct {
+        const char *name;
+        uint32_t (*call)(void);
+        size_t most;
+    } calls[] = {{"perk_product", product, 2048},        {"perk_constraints", constraints, 20 * 1024},
+                 {"perk_values", value, 20 * 1024},      {"perk_prove", prove, 48 * 1024},
+                 {"perk_verify", verify, 24 * 1024},     {"perk_read_check_file", read_check_file, 2048},
+                 {"perk_field", field, 2048},            {"perk_check", check, 48 * 1024}};
+    FILE *input = argc == 2 ? fopen(argv[1], "rb") : NULL;
+    if (input == NULL) return 2;
+    file_len = fread(file, 1, sizeof file, input);
+    fclose(input);
+    /* H is zero, so that every order solves the key; the other numbers are any within the limit, and a and the masks are zero */
+    for (int i = 0; i < N; i++) positions[i] = (uint8_t)i;
+    for (int i = 0; i < W * N * D; i++) v[i] = q[i] = (uint16_t)(i * 37 % 2048);
+    for (int i = 0; i < W * (N + M); i++) alpha[i] = (uint16_t)(i % 2048);
+
+    int failed = 0;
+    size_t base = used(nothing);
+    for (size_t i = 0; i < sizeof calls / sizeof *calls; i++) {
+        size_t bytes = used(calls[i].call) - base;
+        printf("%s: %lu bytes of stack, stated: under %lu\n", calls[i].name, (unsigned long)bytes, (unsigned long)calls[i].most);
+        if (bytes >= calls[i].most || (result != 0 && result != 255)) failed = 1;
+    }
+    return failed;
+}

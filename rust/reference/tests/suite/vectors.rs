@@ -1,5 +1,5 @@
-//! The files of `vectors/`: they are the ones that the program writes, and
-//! they hold what the entries answer.
+//! The files of `vectors/` and the cases of `perkcheck`: they are the ones
+//! that the program writes, and they hold what the entries answer.
 
 use crate::large;
 use reference::large_field::COORDINATES;
@@ -12,6 +12,11 @@ use std::path::{Path, PathBuf};
 
 fn directory() -> PathBuf {
     Path::new(env!("CARGO_MANIFEST_DIR")).join("../../vectors")
+}
+
+/// The cases stand with the program that runs them, beside its code.
+fn cases() -> PathBuf {
+    Path::new(env!("CARGO_MANIFEST_DIR")).join("../../crates/perkcheck_cases")
 }
 
 /// The files below a directory, by their paths from there.
@@ -32,6 +37,11 @@ fn stored(directory: &Path, prefix: &str, files: &mut BTreeMap<String, Vec<u8>>)
 fn the_stored_files_are_the_written_ones() {
     let mut files = BTreeMap::new();
     stored(&directory(), "", &mut files);
+    stored(&cases().join("data"), "perkcheck_cases/data/", &mut files);
+    for name in ["args", "stdout"] {
+        let bytes = fs::read(cases().join(name)).expect("a readable file");
+        files.insert(format!("perkcheck_cases/{name}"), bytes);
+    }
     let written: BTreeMap<String, Vec<u8>> = all().into_iter().collect();
     let names: Vec<&String> = files.keys().collect();
     assert_eq!(names, written.keys().collect::<Vec<_>>());

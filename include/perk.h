@@ -142,7 +142,8 @@ uint32_t perk_verify(size_t n, size_t m, const uint16_t *h, size_t h_len, const 
  * 14 alpha. The readers try for each field in turn 9 (head), 10, 11, 9 (content) and the refusal of its values (01: 1, 2;
  * 02, 03: 4; 06: 5; 07, 11 to 14: 6), and then 12. They read any number of bytes.
  *
- * n, m and the serial of a package; on a refusal the three keep their values. Stack: under 2 KiB.
+ * n, m and the serial of a package; on a refusal the three keep their values. n, m and serial name three different numbers
+ * of the caller's, none of them within bytes. Stack: under 2 KiB.
  */
 uint32_t perk_read_package(const uint8_t *bytes, size_t bytes_len, uint32_t *n, uint32_t *m, uint32_t *serial);
 
@@ -154,7 +155,7 @@ uint32_t perk_read_check_file(const uint8_t *bytes, size_t bytes_len, uint32_t *
 /*
  * Where the content of the field with a tag stands in a package: returns its length, and start is its first byte's place
  * in bytes. 0, with start 0, for a package that perk_read_package refuses or a tag that a package does not have; no field
- * of a package is empty. No refusal is told. Stack: under 2 KiB.
+ * of a package is empty. No refusal is told. start names a number of the caller's, not within bytes. Stack: under 2 KiB.
  */
 size_t perk_field(const uint8_t *bytes, size_t bytes_len, uint8_t tag, size_t *start);
 

@@ -84,7 +84,7 @@ uint32_t perk_constraints(size_t n, size_t m, const uint16_t *h, size_t h_len, c
  *   q            12 n d words    delta        12 words
  *   values       12 (n + m) words, written: value 0 first
  *
- * Refusals: 1, 2, 3 (all six slices), 4 (h, x), 5 (t), 6 (q, delta). Stack: under 20 KiB.
+ * Refusals: 1, 2, 3 (all six slices), 4 (h, x), 5 (t), 6 (q, delta). Stack: under 6 KiB.
  */
 uint32_t perk_values(size_t n, size_t m, const uint16_t *h, size_t h_len, const uint16_t *x, size_t x_len,
                      const uint8_t *t, size_t t_len, const uint16_t *q, size_t q_len,
@@ -110,7 +110,7 @@ uint32_t perk_values(size_t n, size_t m, const uint16_t *h, size_t h_len, const 
  * key and weights, any challenge delta, each q(i,k) = u(i,k) delta + v(i,k) and each masks(k) = s(k) delta + r(k).
  *
  * No jump and no address depends on positions, u, v, r or s, other than the decision to refuse; this is tested, and not
- * part of the proof. Stack: under 48 KiB.
+ * part of the proof. Stack: under 24 KiB.
  */
 uint32_t perk_prove(size_t n, size_t m, const uint16_t *h, size_t h_len, const uint16_t *x, size_t x_len,
                     const uint8_t *positions, size_t positions_len, const uint8_t *u, size_t u_len,
@@ -125,7 +125,7 @@ uint32_t perk_prove(size_t n, size_t m, const uint16_t *h, size_t h_len, const u
  *   q            12 n d words    delta        12 words      masks        12 (d - 1) words
  *   alpha        12 (n + m) words                           a            12 d words
  *
- * Refusals: 1, 2, 3 (all eight slices), 4 (h, x), 5 (t), 6 (q, delta, masks, alpha, a). Stack: under 24 KiB.
+ * Refusals: 1, 2, 3 (all eight slices), 4 (h, x), 5 (t), 6 (q, delta, masks, alpha, a). Stack: under 12 KiB.
  *
  * Accepted means that this equation holds. It does not by itself mean that a signature is valid: the challenge, the
  * weights and the correlations are the caller's, who must take the challenge only after the prover's commitment and
@@ -161,7 +161,7 @@ size_t perk_field(const uint8_t *bytes, size_t bytes_len, uint8_t tag, size_t *s
 
 /*
  * Whether a check file's proof is accepted: the refusal of perk_read_check_file where there is one, else 0 or 255 as
- * perk_verify answers on the fields; none of its refusals then applies. Stack: under 48 KiB.
+ * perk_verify answers on the fields; none of its refusals then applies. Stack: under 40 KiB.
  */
 uint32_t perk_check(const uint8_t *bytes, size_t bytes_len);
 

@@ -1,12 +1,14 @@
 /*
  * Calls perk_constraints or perk_prove with secret slices marked as undefined for valgrind's memcheck, which then reports each
  * jump and each address that depends on them. The key, the positions and the other numbers are made from a fixed seed; the
- * positions solve the key, so that no refusal applies unless a fault is asked for. Prints the result.
+ * positions solve the key, so that no refusal applies unless a fault is asked for. Prints the result, or 254 where a refusal has
+ * left something else in an output than before.
  *
  * usage: secrets ENTRY N M SLICE CASE
  *   ENTRY  constraints or prove
  *   SLICE  positions, u, v, r or s: the one that is marked; or all
- *   CASE   plain; fault: the last element of the slice is too large; order: the positions do not solve the key;
+ *   CASE   plain; fault: the last element of the slice is too large; order: one position is there twice; spare: one position is n,
+ *          below 2^d, so that in both the positions do not solve the key;
  *          jump or index: before the call, a jump or an address that depends on the first byte of the slice
  */
 #include <stdint.h>
@@ -58,6 +60,14 @@ static void make_order(size_t n) {
     }
 }
 
+/* whether all bytes are zero, as they are before a call */
+static int untouched(const void *output, size_t size) {
+    const uint8_t *bytes = output;
+    for (size_t i = 0; i < size; i++)
+        if (bytes[i]) return 0;
+    return 1;
+}
+
 int main(int argc, char **argv) {
     if (argc != 6) return 2;
     const char *entry = argv[1], *slice = argv[4], *kind = argv[5];
@@ -74,6 +84,7 @@ int main(int argc, char **argv) {
     fill(alpha, weights);
 
     if (strcmp(kind, "order") == 0) positions[0] = positions[1];
+    if (strcmp(kind, "spare") == 0) positions[0] = (uint8_t)n;
     struct { const char *name; uint8_t *start; size_t size; } secrets[] = {{"positions", positions, n},
                                                                            {"u", u, bits},
                                                                            {"v", (uint8_t *)v, 2 * W * bits},
@@ -100,6 +111,7 @@ int main(int argc, char **argv) {
         result = perk_prove(n, m, h, m * n, x, n, positions, n, u, bits, v, W * bits, r, masks, s, masks, alpha, weights, t,
                             bits, a, W * d);
     VALGRIND_MAKE_MEM_DEFINED(&result, sizeof result);
+    if (result != 0 && !(untouched(t, sizeof t) && untouched(a, sizeof a) && untouched(polynomials, sizeof polynomials))) result = 254;
     printf("%u\n", (unsigned)result);
     return 0;
 }

@@ -73,9 +73,9 @@ int main(int argc, char **argv) {
         uint32_t (*call)(void);
         size_t most;
     } calls[] = {{"perk_product", product, 2048},        {"perk_constraints", constraints, 20 * 1024},
-                 {"perk_values", value, 20 * 1024},      {"perk_prove", prove, 48 * 1024},
-                 {"perk_verify", verify, 24 * 1024},     {"perk_read_check_file", read_check_file, 2048},
-                 {"perk_field", field, 2048},            {"perk_check", check, 48 * 1024}};
+                 {"perk_values", value, 6 * 1024},       {"perk_prove", prove, 24 * 1024},
+                 {"perk_verify", verify, 12 * 1024},     {"perk_read_check_file", read_check_file, 2048},
+                 {"perk_field", field, 2048},            {"perk_check", check, 40 * 1024}};
     FILE *input = argc == 2 ? fopen(argv[1], "rb") : NULL;
     if (input == NULL) return 2;
     file_len = fread(file, 1, sizeof file, input);

@@ -72,9 +72,9 @@ fn words_into(c: &[u8], out: &mut [u16]) -> usize
     i
 }
 
-// The content of a field of a check file as words, at the start of out; answers how many.
+// The content of a field of an accepted check file as words, at the start of out; answers how many.
 fn load(bytes: &[u8], tag: u8, out: &mut [u16]) -> usize
-    requires { ⌜ length (content (levelAt 1) (now bytes) tag) ≤ 2 * length (now out) ⌝ }
+    requires { ⌜ Accepts (levelAt 1) (now bytes) × (length (content (levelAt 1) (now bytes) tag) ≤ 2 * length (now out)) ⌝ }
     ensures { λ r. ⌜ (take r (now (out .exit)) ≡ words (content (levelAt 1) (now (bytes .entry)) tag)) × (r ≤ length (now (out .exit))) × (r ≡ length (take r (now (out .exit)))) ⌝ }
 {
     words_into(package::check_field(bytes, tag), out)

@@ -17,14 +17,18 @@ use Rattle.field.specs.declared.Level.{Level}
 use Rattle.field.specs.Level.{K}
 use Rattle.field.specs.Word.{words}
 use Rattle.rows.specs.Elements.{el, Words}
-use Rattle.rows.specs.Polynomial.{raise}
+use Rattle.rows.specs.Polynomial.{sum}
 use Rattle.rows.specs.Step.{Put, Added}
+use Rattle.rows.proofs.SumLaws.{sum-cong}
 use Rattle.rows.proofs.ListLaws.{concat-cong, concat-parts}
 use Rattle.rows.proofs.ElementLaws.{part-words, fits-le, fits-all}
+use Rattle.folding.specs.Weights.{weightedSum}
+use Rattle.folding.proofs.WeightLaws.{sum-split, added-same, shares-none, shares-more}
 use Rattle.constraints.specs.Graded.{summed, sigma, pow}
 use Rattle.constraints.specs.Slices.{elementAt}
+use Rattle.constraints.proofs.Link.{sum-sigma}
 use Rattle.constraints.proofs.Sums.{sigma-mul, sigma-first}
-use Rattle.checkzero.specs.CheckZero.{shifted, mask}
+use Rattle.checkzero.specs.CheckZero.{shifted, mask, maskSum}
 use Rattle.checkzero.specs.Slices.{every}
 
 -- the two readings of an element of a slice
@@ -55,11 +59,6 @@ module _ (R : Ring) where
   pub sigma-more : (n : ℕ) (c : ℕ → Carrier) → sigma R n c ⊕ c n ≡ sigma R (n + 1) c
   unfolding summed
   sigma-more n c = ap (λ k. sigma R k c) (sym (add-one n))
-
-  pub raise-pow : (y : Carrier) (k : ℕ) → raise R y k ≡ pow R y k
-  unfolding raise pow
-  raise-pow y zero = refl
-  raise-pow y (suc k) = ap (λ p. y ⊗ p) (raise-pow y k)
 
   -- the polynomial of coefficients k to n - 1 of a, at Δ
   module _ (a : ℕ → Carrier) (Δ : Carrier) where
@@ -104,20 +103,28 @@ module _ (R : Ring) where
         same : (i : ℕ) → 0 + i ≡ i
         same i = omega arith
 
+  -- mask numbers times powers of Δ, in either order
+  pub mask-evaluated : (n : ℕ) (Δ : Carrier) (numbers : ℕ → Carrier) → sigma R n (λ k. numbers k ⊗ pow R Δ k) ≡ maskSum R n Δ numbers
+  unfolding maskSum
+  mask-evaluated n Δ numbers = ap (sigma R n) (λ t k. R .mul-comm (numbers k) (pow R Δ k) t)
+
   -- the sum of the c i of i below j is added
-  pub sums-none : (f : ℕ → Carrier) (c : ℕ → ℕ → Carrier) (n : ℕ) → Added R f f (λ k. sigma R 0 (λ i. c i k)) n
-  unfolding summed
-  sums-none f c n = record { low = λ k h. sym (R .add-zero (f k)); rest = λ k h. refl }
+  module _ (f : ℕ → Carrier) (c : ℕ → ℕ → Carrier) (n : ℕ) where
+    as-sum : (j k : ℕ) → sum R j (λ i. c i k) ≡ sigma R j (λ i. c i k)
+    as-sum j k = sum-sigma R j (λ i. c i k)
 
-  pub sums-more : (f g g₁ : ℕ → Carrier) (c : ℕ → ℕ → Carrier) (n j : ℕ) → Added R f g (λ k. sigma R j (λ i. c i k)) n → Added R g g₁ (c j) n → Added R f g₁ (λ k. sigma R (j + 1) (λ i. c i k)) n
-  sums-more f g g₁ c n j t u = record {
-    low = λ k h. u .low k h ∙ ap (λ y. y ⊕ c j k) (t .low k h) ∙ R .add-assoc (f k) (sigma R j (λ i. c i k)) (c j k) ∙ ap (λ y. f k ⊕ y) (sigma-more j (λ i. c i k));
-    rest = λ k h. u .rest k h ∙ t .rest k h;
-  }
+    sums-none : Added R f f (λ k. sigma R 0 (λ i. c i k)) n
+    sums-none = added-same R f f (λ k. sum R 0 (λ i. c i k)) (λ k. sigma R 0 (λ i. c i k)) n (λ k l. as-sum 0 k) (shares-none R f c n)
 
-  -- c, then e, is added to zeros
-  pub filled : (f g h c e : ℕ → Carrier) (n m : ℕ) → n ≤ m → ((k : ℕ) → k < n → f k ≡ 𝟘) → Added R f g c n → Added R g h e m → (k : ℕ) → k < n → h k ≡ c k ⊕ e k
-  filled f g h c e n m l z t u k p = u .low k (omega arith) ∙ ap (λ y. y ⊕ e k) (t .low k p ∙ ap (λ y. y ⊕ c k) (z k p) ∙ zero-left (c k))
+    sums-more : (g g₁ : ℕ → Carrier) (j : ℕ) → Added R f g (λ k. sigma R j (λ i. c i k)) n → Added R g g₁ (c j) n → Added R f g₁ (λ k. sigma R (j + 1) (λ i. c i k)) n
+    sums-more g g₁ j t u = added-same R f g₁ (λ k. sum R (j + 1) (λ i. c i k)) (λ k. sigma R (j + 1) (λ i. c i k)) n (λ k l. as-sum (j + 1) k) (shares-more R f c n g g₁ j (added-same R f g (λ k. sigma R j (λ i. c i k)) (λ k. sum R j (λ i. c i k)) n (λ k l. sym (as-sum j k)) t) u)
+
+  -- the columns and the checks are the first n and the next m of all results
+  pub weighted-all : (n m : ℕ) (α column check c : ℕ → Carrier) → ((j : ℕ) → j < n → column j ≡ c j) → ((e : ℕ) → e < m → check e ≡ c (n + e)) → weightedSum R n m α column check ≡ sigma R (n + m) (λ j. α j ⊗ c j)
+  unfolding weightedSum
+  weighted-all n m α column check c h l =
+      ap₂ _⊕_ (sum-cong R n (λ j. α j ⊗ column j) (λ j. α j ⊗ c j) (λ j a. ap (λ y. α j ⊗ y) (h j a))) (sum-cong R m (λ e. α (n + e) ⊗ check e) (λ e. α (n + e) ⊗ c (n + e)) (λ e a. ap (λ y. α (n + e) ⊗ y) (l e a)))
+      ∙ sym (sum-split R n m (λ j. α j ⊗ c j)) ∙ sum-sigma R (n + m) (λ j. α j ⊗ c j)
 
   -- r is added at k, then s at k + 1
   shifted-added : (f g h : ℕ → Carrier) (k n : ℕ) (r s : Carrier) → k + 1 < n → Put f g k (f k ⊕ r) → Put g h (k + 1) (g (k + 1) ⊕ s) → Added R f h (shifted R k s r) n
@@ -147,7 +154,7 @@ module _ (R : Ring) where
 
   pub mask-more : (f g g₁ h r s : ℕ → Carrier) (n k : ℕ) → k + 1 < n → Added R f g (mask R k r s) n → Put g g₁ k (g k ⊕ r k) → Put g₁ h (k + 1) (g₁ (k + 1) ⊕ s k) → Added R f h (mask R (k + 1) r s) n
   unfolding mask
-  mask-more f g g₁ h r s n k l t p q = sums-more f g h (λ k i. shifted R k (s k) (r k) i) n k t (shifted-added g g₁ h k n (r k) (s k) l p q)
+  mask-more f g g₁ h r s n k l t p q = sums-more f (λ k i. shifted R k (s k) (r k) i) n g h k t (shifted-added g g₁ h k n (r k) (s k) l p q)
 
 -- a slice by its n elements
 pub written : (l : Level) (n : ℕ) (ys : List ℕ) (c : ℕ → K l .Carrier) → Words l ys → 0 < l .coordinates → length ys ≡ l .coordinates * n → ((k : ℕ) → k < n → el l ys k ≡ c k) → ys ≡ concat n (λ k. words l (c k))

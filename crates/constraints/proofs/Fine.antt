@@ -30,7 +30,7 @@ pub record Room (l : Level) (n : ℕ) : Type 0 where
   pub d-lt : degree n < 64
   pub columns : n ≤ 2 ^ degree n
   pub polynomials : Fits l ((degree n + 1) * 2 ^ degree n) 5376
-  pub values : Fits l (2 ^ degree n) 5376
+  pub values : Fits l (2 ^ degree n) 768
 
 pub room : (number : ℕ) (key : Key) → Sized (levelAt number) key → Room (levelAt number) (key .n)
 room number key s = record {
@@ -38,7 +38,7 @@ room number key s = record {
   d-lt = omega (arith, small);
   columns = degree-fits (key .n) (omega (arith, most));
   polynomials = (mul-le-mul (b .narrow) all, omega (arith, all));
-  values = (omega (arith, mul-le-mul (b .narrow) power), omega (arith, power));
+  values = (mul-le-mul (b .narrow) power, omega (arith, power));
 }
   where
     b : Bounded (levelAt number)

@@ -34,7 +34,7 @@ module _ (A : Ring) where
 
   infixl 60 _⊕_
   infixl 70 _⊗_
-  sum-sigma : (n : ℕ) (f : ℕ → Carrier) → R.sum A n f ≡ sigma A n f
+  pub sum-sigma : (n : ℕ) (f : ℕ → Carrier) → R.sum A n f ≡ sigma A n f
   unfolding R.sum sigma summed
   sum-sigma zero f = refl
   sum-sigma (suc n) f = ap (λ s. s ⊕ f n) (sum-sigma n f)
@@ -159,38 +159,41 @@ module _ (l : Level) (n m : ℕ) (h x : List ℕ) where
   unfolding el elements elementAt
   element-same s i k = ap (λ c. element l (part (l .coordinates * (c + k)) (l .coordinates) s)) (mul-comm d i)
 
-  pub polynomials-written : (positions v : List ℕ) → O.polynomials l n m d h x positions v ≡ polynomialWords l (systemOf l n m h x) (witnessOf n positions) v
-  unfolding O.polynomials polynomialWords
-  polynomials-written positions v = ap₂ _++_
-      (concat-cong n _ _ (λ j a. coefficients _ _ (λ k. column-at j k ∙ column-same (embed l) key d (witnessOf n positions) (elements l d v) j k a)))
-      (concat-cong m _ _ (λ e a. coefficients _ _ (λ k. check-at e k ∙ check-same (embed l) key d (witnessOf n positions) (elements l d v) e k)))
-      ∙ sym (concat-append n m _)
-    where
-      coefficients : (f g : ℕ → K l .Carrier) → ((k : ℕ) → f k ≡ g k) → concat (d + 1) (λ k. words l (f k)) ≡ concat (suc d) (λ k. words l (g k))
-      coefficients f g e = ap₂ (λ (c : ℕ) (r : ℕ → K l .Carrier). concat c (λ k. words l (r k))) (add-one d) (λ t k. e k t)
+  -- the coefficients of the polynomials
+  module _ (positions v : List ℕ) where
+    pub column-written : (j k : ℕ) → j < n → R.column (K l) n d (O.entryOf l n h) (O.smallOf l x) (O.digitOf d positions) (O.elementOf l d v) j k
+        ≡ coefficient (K l) (suc d) (polynomial (systemOf l n m h x) (witnessOf n positions) (elements l d v) j) k
+    column-written j k a = (λ t. R.column (K l) n d (λ e i. entry-same e i t) (λ j. small-same j t) (λ i k. digits-same n positions i k t) (λ i k. element-same v i k t) j k)
+        ∙ column-same (embed l) key d (witnessOf n positions) (elements l d v) j k a
 
-      column-at : (j k : ℕ) → R.column (K l) n d (O.entryOf l n h) (O.smallOf l x) (O.digitOf d positions) (O.elementOf l d v) j k
-          ≡ R.column (K l) n d (λ e i. embed l .map (key .H e i)) (λ j. embed l .map (key .x j)) (witnessOf n positions) (elements l d v) j k
-      column-at j k = λ t. R.column (K l) n d (λ e i. entry-same e i t) (λ j. small-same j t) (λ i k. digits-same n positions i k t) (λ i k. element-same v i k t) j k
+    pub check-written : (e k : ℕ) → R.check (K l) n d (O.entryOf l n h) (O.smallOf l x) (O.digitOf d positions) (O.elementOf l d v) e k
+        ≡ coefficient (K l) (suc d) (polynomial (systemOf l n m h x) (witnessOf n positions) (elements l d v) (n + e)) k
+    check-written e k = (λ t. R.check (K l) n d (λ e i. entry-same e i t) (λ j. small-same j t) (λ i k. digits-same n positions i k t) (λ i k. element-same v i k t) e k)
+        ∙ check-same (embed l) key d (witnessOf n positions) (elements l d v) e k
 
-      check-at : (e k : ℕ) → R.check (K l) n d (O.entryOf l n h) (O.smallOf l x) (O.digitOf d positions) (O.elementOf l d v) e k
-          ≡ R.check (K l) n d (λ e i. embed l .map (key .H e i)) (λ j. embed l .map (key .x j)) (witnessOf n positions) (elements l d v) e k
-      check-at e k = λ t. R.check (K l) n d (λ e i. entry-same e i t) (λ j. small-same j t) (λ i k. digits-same n positions i k t) (λ i k. element-same v i k t) e k
+    pub polynomials-written : O.polynomials l n m d h x positions v ≡ polynomialWords l (systemOf l n m h x) (witnessOf n positions) v
+    unfolding O.polynomials polynomialWords
+    polynomials-written = ap₂ _++_ (concat-cong n _ _ (λ j a. coefficients _ _ (λ k. column-written j k a))) (concat-cong m _ _ (λ e a. coefficients _ _ (check-written e))) ∙ sym (concat-append n m _)
+      where
+        coefficients : (f g : ℕ → K l .Carrier) → ((k : ℕ) → f k ≡ g k) → concat (d + 1) (λ k. words l (f k)) ≡ concat (suc d) (λ k. words l (g k))
+        coefficients f g e = ap₂ (λ (c : ℕ) (r : ℕ → K l .Carrier). concat c (λ k. words l (r k))) (add-one d) (λ t k. e k t)
 
-  pub values-written : (t q Δ : List ℕ) → Bits t → length Δ ≡ l .coordinates → O.values l n m d h x t q Δ ≡ valueWords l (systemOf l n m h x) t q Δ
-  unfolding O.values valueWords el
-  values-written t q Δ b e = ap₂ _++_
-      (concat-cong n _ _ (λ j a. ap (words l) (column-at j ∙ column-value (embed l) key d (bits d t) (elements l d q) (element l Δ) j a)))
-      (concat-cong m _ _ (λ e a. ap (words l) (check-at e ∙ check-value (embed l) key d (bits d t) (elements l d q) (element l Δ) e)))
-      ∙ sym (concat-append n m _)
-    where
-      challenge : el l Δ 0 ≡ element l Δ
-      challenge = ap (λ c. element l (part c (l .coordinates) Δ)) (mul-zero (l .coordinates)) ∙ ap (element l) (part-whole (l .coordinates) Δ e)
+  -- the values
+  module _ (t q Δ : List ℕ) (b : Bits t) (e : length Δ ≡ l .coordinates) where
+    challenge : el l Δ 0 ≡ element l Δ
+    unfolding el
+    challenge = ap (λ c. element l (part c (l .coordinates) Δ)) (mul-zero (l .coordinates)) ∙ ap (element l) (part-whole (l .coordinates) Δ e)
 
-      column-at : (j : ℕ) → R.columnValue (K l) n d (O.entryOf l n h) (O.smallOf l x) (O.bitOf d t) (O.elementOf l d q) (el l Δ 0) j
-          ≡ R.columnValue (K l) n d (λ e i. embed l .map (key .H e i)) (λ j. embed l .map (key .x j)) (bits d t) (elements l d q) (element l Δ) j
-      column-at j = λ s. R.columnValue (K l) n d (λ e i. entry-same e i s) (λ j. small-same j s) (λ i k. bits-same d t b i k s) (λ i k. element-same q i k s) (challenge s) j
+    pub column-value-written : (j : ℕ) → j < n → R.columnValue (K l) n d (O.entryOf l n h) (O.smallOf l x) (O.bitOf d t) (O.elementOf l d q) (el l Δ 0) j
+        ≡ value (systemOf l n m h x) (bits d t) (elements l d q) (element l Δ) j
+    column-value-written j a = (λ s. R.columnValue (K l) n d (λ e i. entry-same e i s) (λ j. small-same j s) (λ i k. bits-same d t b i k s) (λ i k. element-same q i k s) (challenge s) j)
+        ∙ column-value (embed l) key d (bits d t) (elements l d q) (element l Δ) j a
 
-      check-at : (e : ℕ) → R.checkValue (K l) n d (O.entryOf l n h) (O.smallOf l x) (O.bitOf d t) (O.elementOf l d q) (el l Δ 0) e
-          ≡ R.checkValue (K l) n d (λ e i. embed l .map (key .H e i)) (λ j. embed l .map (key .x j)) (bits d t) (elements l d q) (element l Δ) e
-      check-at e = λ s. R.checkValue (K l) n d (λ e i. entry-same e i s) (λ j. small-same j s) (λ i k. bits-same d t b i k s) (λ i k. element-same q i k s) (challenge s) e
+    pub check-value-written : (e : ℕ) → R.checkValue (K l) n d (O.entryOf l n h) (O.smallOf l x) (O.bitOf d t) (O.elementOf l d q) (el l Δ 0) e
+        ≡ value (systemOf l n m h x) (bits d t) (elements l d q) (element l Δ) (n + e)
+    check-value-written e = (λ s. R.checkValue (K l) n d (λ e i. entry-same e i s) (λ j. small-same j s) (λ i k. bits-same d t b i k s) (λ i k. element-same q i k s) (challenge s) e)
+        ∙ check-value (embed l) key d (bits d t) (elements l d q) (element l Δ) e
+
+    pub values-written : O.values l n m d h x t q Δ ≡ valueWords l (systemOf l n m h x) t q Δ
+    unfolding O.values valueWords
+    values-written = ap₂ _++_ (concat-cong n _ _ (λ j a. ap (words l) (column-value-written j a))) (concat-cong m _ _ (λ e a. ap (words l) (check-value-written e))) ∙ sym (concat-append n m _)

@@ -17,8 +17,10 @@ ghost use Rattle.constraints.specs.Truth.{Truth};
 use key::Key;
 use refusal::Answer;
 
-// Words of work space: d + 1 coefficients for each of 2^d columns, at the widest level.
-const WORK: usize = 5376;
+// Words of work space, at the widest level: d + 1 coefficients, or one value, for each of 2^d columns.
+const POLYNOMIALS: usize = 5376;
+
+const VALUES: usize = 768;
 
 // Zero exactly when each slice of constraints has its length.
 fn constraints_lengths(
@@ -129,7 +131,7 @@ pub fn write_polynomials(key: Key, h: &[u16], x: &[u16], positions: &[u8], v: &[
 {
     let n = key.n;
     let m = key.m;
-    let mut work = [0u16; WORK];
+    let mut work = [0u16; POLYNOMIALS];
     rows::polynomials(p, n, m, key.degree(), h, x, positions, v, &mut work, 1);
 }
 
@@ -174,7 +176,7 @@ pub fn write_values(
 {
     let n = key.n;
     let m = key.m;
-    let mut work = [0u16; WORK];
+    let mut work = [0u16; VALUES];
     rows::values(p, n, m, key.degree(), h, x, t, q, delta, &mut work, 1);
 }
 

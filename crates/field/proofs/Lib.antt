@@ -4,6 +4,7 @@ pub mod Coordinate
 pub mod Packing
 pub mod Limit
 pub mod Elements
+pub mod PartLaws
 pub mod Equal
 pub mod Lent
 pub mod Fields

@@ -5,7 +5,7 @@ use Prim.Native.Nat.{ℕ, zero, suc, _+_, _-_, _*_, _/_, _%_, _^_, _<_, _≤_}
 use native.Mathlib.Nat.{zero-mul, one-mul, mul-zero, mul-comm, pow-suc, mod-lt, mul-le-mul-right}
 use native.Mathlib.Omega.{arith}
 use lib.Arith.{mod-mul}
-use lib.Bits.{bitXor, differ, xor-step, xor-lt, xor-block, xor-zero-r, xor-shifted}
+use lib.Bits.{bitXor, differ, xor-step, xor-lt, xor-block, xor-zero-r, xor-shifted, xor-comm}
 use lib.Pow.{pow-pos, pow-lt, split}
 use Rattle.field.specs.Ring.{Ring}
 use Rattle.field.specs.RingLaws.{zero-mul as 𝟘-mul, add-mul}
@@ -48,6 +48,11 @@ pub digits-zero : (n : ℕ) → digits n 0 ≡ zeros binary n
 unfolding digits zeros
 digits-zero zero = refl
 digits-zero (suc n) = λ i. (false, digits-zero n i)
+
+pub digits-one : (n : ℕ) → digits n 1 ≡ unit binary n 0
+unfolding digits unit
+digits-one zero = refl
+digits-one (suc n) = λ i. (true, digits-zero n i)
 
 pub digits-number : (n : ℕ) (v : Vector Bool n) → digits n (number n v) ≡ v
 unfolding digits number
@@ -125,6 +130,18 @@ module _ (w t : ℕ) where
   timesX-low x h = sym (sum-zeros binary w (digits w (2 * x)))
       ∙ ap₂ (sum binary w) (ap (digits w) (double x) ∙ digits-push w x false) (sym (zero-scale binary w (rule binary w t)) ∙ ap (λ c. scale binary w c (rule binary w t)) (sym (top-low w x false (omega arith))))
 
+  -- a number by its lowest digit and its half
+  pub digits-half : (x : ℕ) → 1 < w → x < 2 ^ w → digits w x ≡ sum binary w (digits w (x % 2)) (times binary w t (digits w 2) (digits w (x / 2)))
+  unfolding generator
+  digits-half x h l = ap (digits w) parts ∙ digits-xor w (x % 2) (2 * (x / 2))
+      ∙ ap (sum binary w (digits w (x % 2))) (timesX-low (x / 2) (omega arith) ∙ sym (generator-times binary w t (digits w (x / 2))) ∙ ap (λ u. times binary w t u (digits w (x / 2))) (ap (timesX binary w t) (sym (digits-one w)) ∙ sym (timesX-low 1 two)))
+    where
+      two : 2 * 1 < 2 ^ w
+      two = pow-lt h
+
+      parts : x ≡ bitXor (x % 2) (2 * (x / 2))
+      parts = omega arith ∙ sym (xor-shifted (x / 2) 1 (x % 2) (omega arith)) ∙ xor-comm (x / 2 * 2) (x % 2) ∙ ap (bitXor (x % 2)) (mul-comm (x / 2) 2)
+
   timesX-high : (x r : ℕ) → digits w r ≡ rule binary w t → 2 ^ w ≤ 2 * x → x < 2 ^ w → digits w (bitXor (2 * x - 2 ^ w) r) ≡ timesX binary w t (digits w x)
   unfolding timesX
   timesX-high x r e h l = digits-xor w (2 * x - 2 ^ w) r
@@ -186,11 +203,6 @@ module _ (w t : ℕ) (b : Vector Bool w) where
 
   pub multiple-none : multiple 0 ≡ 0
   multiple-none = ap (number w) (ap (λ u. F .mul u b) (digits-zero w) ∙ 𝟘-mul F b ∙ sym (digits-zero w)) ∙ number-digits w 0 (pow-pos w)
-
-  digits-one : (n : ℕ) → digits n 1 ≡ unit binary n 0
-  unfolding digits unit
-  digits-one zero = refl
-  digits-one (suc n) = λ i. (true, digits-zero n i)
 
   pub multiple-one : multiple 1 ≡ number w b
   multiple-one = ap (λ u. number w (F .mul u b)) (digits-one w) ∙ ap (number w) (F .mul-comm (unit binary w 0) b ∙ F .mul-one b)

@@ -2,7 +2,8 @@
 use mathlib.Core.Path.{_≡_}
 use mathlib.Core.List.{List}
 use Prim.Native.Nat.{ℕ, zero, suc, _*_, _/_, _%_, _^_, _<_}
-use lib.ListN.{getD, drop}
+use lib.ListN.{length, getD, drop}
+use Rattle.field.specs.Ring.{Ring}
 use Rattle.field.specs.Level.{K, embed}
 use Rattle.field.specs.declared.Level.{Level}
 use Rattle.field.specs.Word.{small, words}
@@ -23,3 +24,16 @@ Holds l ws x = (i : ℕ) → i < l .coordinates → coordinate ws i ≡ getD (wo
 -- a table, three words to an element, holds the multiples of x by 1, z, z^2 and so on
 unfoldable pub Tabulates : (l : Level) → List ℕ → K l .Carrier → Type 0
 Tabulates l ts x = (k : ℕ) → k < l .width → Holds l (drop (3 * k) ts) (K l .mul (embed l .map (small l (2 ^ k))) x)
+
+-- a 0 + z (a 1 + z (a 2 + ..)), of n elements of a ring
+unfoldable pub combined : (R : Ring) → R .Carrier → ℕ → (ℕ → R .Carrier) → R .Carrier
+combined R z zero a = R .zero
+combined R z (suc n) a = R .add (a 0) (R .mul z (combined R z n (λ k. a (suc k))))
+
+-- as many parts as F has digits, three words each: the first plus z times the second, z^2 times the third and so on is y;
+-- z is the number 2
+pub record Combines (l : Level) (ws : List ℕ) (y : K l .Carrier) : Type 0 where
+  pub size : length ws ≡ 3 * l .width
+  pub part : ℕ → K l .Carrier
+  pub held : (k : ℕ) → k < l .width → Holds l (drop (3 * k) ws) (part k)
+  pub total : combined (K l) (embed l .map (small l 2)) (l .width) part ≡ y

@@ -14,6 +14,7 @@ ghost use Rattle.field.specs.Packed.{Holds, Tabulates};
 use refusal::Answer;
 use refusal::Refusal;
 
+pub mod combination;
 mod packed;
 pub mod small;
 
@@ -144,13 +145,6 @@ impl Element {
         Element {
             words: [a[0] & mask, a[1] & mask, a[2] & mask],
         }
-    }
-
-    // f, an element of F, times the element.
-    pub fn scaled(self, f: u16, level: usize) -> Element
-        ensures { λ r. ⌜ ((x : K (levelAt level) .Carrier) → f ≤ levelAt level .limit → Holds (levelAt level) (self .words) x → Holds (levelAt level) (r .words) (K (levelAt level) .mul (embed (levelAt level) .map (small (levelAt level) f)) x)) ⌝ }
-    {
-        Multiples::of(self, level).scaled(f, level)
     }
 }
 

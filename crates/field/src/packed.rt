@@ -43,6 +43,16 @@ pub fn times_z(x: u64) -> u64
     (x << 1) ^ (h * 2053)
 }
 
+// z times an element.
+pub fn z_times(e: Element) -> Element
+    ensures { λ r. ⌜ ((x : K first .Carrier) → Holds first (e .words) x → Holds first (r .words) (K first .mul (embed first .map (small first 2)) x)) ⌝ }
+{
+    let a = e.words;
+    Element {
+        words: [times_z(a[0]), times_z(a[1]), times_z(a[2])],
+    }
+}
+
 // The coordinates one place up in a word, with b put in below.
 fn up(x: u64, b: u64) -> u64
     requires { ⌜ b < 65536 ⌝ }

@@ -3,6 +3,7 @@ ghost use mathlib.Core.Path.{_≡_};
 ghost use Prim.Native.Nat.{_+_, _≤_, _<_};
 ghost use lib.ListN.{length, take, getD};
 ghost use Rattle.refusal.specs.Answer.{firstOf};
+ghost use Rattle.refusal.specs.declared.Answer.the-variants.{Done};
 ghost use Rattle.field.specs.Level.{levelAt};
 ghost use Rattle.field.specs.Word.{within};
 ghost use Rattle.key.specs.Key.{Sized};
@@ -417,9 +418,14 @@ pub fn field_part(bytes: &[u8], tag: u8) -> Part
     located(bytes, PACKAGE_ROWS, tag)
 }
 
-// The same of a check file.
+// The caller's own bytes of the content of a field of a check file that the reader accepts, or the empty part for an absent tag. Nothing
+// is read again but the sizes.
 pub fn check_field(bytes: &[u8], tag: u8) -> &[u8]
+    requires { ⌜ firstOf (fileTests (levelAt 1) (checkFileRows (levelAt 1) (keyOf (now bytes))) (now bytes)) ≡ Done ⌝ }
     ensures { λ r. ⌜ IsPart r (bytes .entry) (fieldPart (levelAt 1) (checkFileRows (levelAt 1)) (now (bytes .entry)) tag) ⌝ }
 {
-    content(bytes, CHECK_FILE_ROWS, tag)
+    let p = part_of(key_at(bytes, 3), CHECK_FILE_ROWS, tag);
+    let start = p.start;
+    let end = start + p.len;
+    &bytes[start..end]
 }

@@ -11,13 +11,12 @@ use Rattle.refusal.specs.Answer.{firstOf}
 use Rattle.refusal.specs.declared.Answer.the-variants.{Done}
 use Rattle.field.specs.declared.Level.{Level}
 use Rattle.field.specs.Level.{levelAt}
-use Rattle.field.proofs.Fields.{Bounded, bounded}
-use Rattle.rows.specs.Elements.{Words, Bits}
+use Rattle.field.proofs.Fields.{bounded}
+use Rattle.rows.specs.Elements.{Words, Bits, Fits}
 use Rattle.rows.specs.Outcome.{LentKey}
 use Rattle.key.specs.declared.Key.{Key}
 use Rattle.key.specs.declared.Lengths.{Lengths}
 use Rattle.key.specs.Key.{degree, lengths, Sized, below, withins}
-use Rattle.key.proofs.Sized.{degree-lt}
 use Rattle.key.proofs.Fine.{below-lt, each-within}
 use Rattle.key.proofs.Checked.{checked}
 use Rattle.constraints.proofs.Fine.{words-lt, lent-key}
@@ -72,15 +71,9 @@ module _ (number : ℕ) (key : Key) where
         positions-lt = below-lt (degree (key .n)) positions (c .positions-fine);
       }
 
-  -- the room for the polynomials
-  pub polynomials-le : Sized l key → lengths l key .polynomials ≤ 10668
-  polynomials-le s = mul-le-mul (b .narrow) (mul-le-mul all up)
+  -- the room for n + m elements
+  pub elements-room : Sized l key → Fits l (key .n + key .m) 1524
+  elements-room s = (mul-le-mul (bounded number .narrow) all, omega (arith, all))
     where
-      b : Bounded (levelAt number)
-      b = bounded number
-
       all : key .n + key .m ≤ 127
-      all = omega (arith, s .most, s .fewer, b .most)
-
-      up : degree (key .n) + 1 ≤ 7
-      up = omega (arith, degree-lt (key .n) 7 (omega (arith, s .two)) (omega (arith, s .most, b .most)) (omega (arith, s .most, b .most)))
+      all = omega (arith, s .most, s .fewer, bounded number .most)

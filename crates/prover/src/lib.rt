@@ -1,20 +1,28 @@
 // The entry prove: document 01, 'CheckZero', the prover's side.
 ghost use mathlib.Core.Path.{_≡_};
+ghost use mathlib.Core.List.{List};
+ghost use Prim.Native.Nat.{ℕ};
 ghost use lib.Dec.{eqb};
 ghost use lib.ListN.{length};
 ghost use Rattle.lists.specs.Lent.{long};
 ghost use Rattle.refusal.specs.Answer.{firstOf, decided};
 ghost use Rattle.refusal.specs.declared.Answer.the-variants.{Done};
 ghost use Rattle.field.specs.Level.{levelAt};
+ghost use Rattle.rows.specs.Outcome.{LentKey};
 ghost use Rattle.key.specs.Key.{Sized, lengths};
+ghost use Rattle.constraints.specs.Entry.{system};
+ghost use Rattle.constraints.specs.Slices.{witnessOf};
+ghost use Rattle.checkzero.specs.Slices.{topsZero};
 ghost use Rattle.prover.specs.Entry.{proveLent, proveRows, topsRow, proveResult, proveOutcome};
 ghost use Rattle.prover.specs.Solved.{Solved};
 use key::Key;
 use refusal::Answer;
 use refusal::Refusal;
 
-// Words of work space: d + 1 coefficients for each of n + m polynomials, at the widest level.
-const POLYNOMIALS: usize = 10668;
+// Words of work space, at the widest level: n + m elements, and d + 1 coefficients for each of 2^d columns.
+const ELEMENTS: usize = 1524;
+
+const WORK: usize = 5376;
 
 // Zero exactly when each slice has its length.
 fn lengths(
@@ -69,7 +77,19 @@ fn refused(
     key::checks(slices, elements, key::over(u, 1), coordinates, positions)
 }
 
-// Makes the polynomials in the room p and, where all their tops are zero, writes t and a; otherwise refuses with 8.
+// Zero exactly when all n + m top coefficients are zero; they do not depend on the offsets. p is room for them, work for 2^d elements.
+fn tops(key: Key, h: &[u16], x: &[u16], positions: &[u8], p: &mut [u16], work: &mut [u16]) -> u16
+    requires { ⌜ Sized (levelAt 1) key × LentKey (levelAt 1) (key .n) (key .m) (now h) (now x) ⌝ }
+    requires { ⌜ (length (now positions) ≡ lengths (levelAt 1) key .positions) × (length (now p) ≡ 1524) × (length (now work) ≡ 5376) ⌝ }
+    ensures { λ o. ⌜ ((v : List ℕ) → eqb o 0 ≡ topsZero (levelAt 1) (system (levelAt 1) key (now (h .entry)) (now (x .entry))) (witnessOf (key .n) (now (positions .entry))) v) ⌝ }
+{
+    let n = key.n;
+    let m = key.m;
+    rows::tops(p, n, m, key.degree(), h, x, positions, work, 1);
+    checkzero::nonzero(p, n + m, 1)
+}
+
+// Where all tops are zero, writes t and a; otherwise refuses with 8. p is room for n + m elements, work for (d + 1) 2^d.
 fn weigh(
     key: Key,
     h: &[u16],
@@ -83,19 +103,20 @@ fn weigh(
     t: &mut [u8],
     a: &mut [u16],
     p: &mut [u16],
+    work: &mut [u16],
 ) -> Answer
     requires { ⌜ firstOf (proveRows (levelAt 1) key (now h) (now x) (now positions) (now u) (now v) (now r) (now s) (now alpha) (now t) (now a)) ≡ Done ⌝ }
-    requires { ⌜ length (now p) ≡ lengths (levelAt 1) key .polynomials ⌝ }
+    requires { ⌜ (length (now p) ≡ 1524) × (length (now work) ≡ 5376) ⌝ }
     ensures { λ o. ⌜ (o, (now (t .exit), now (a .exit))) ≡ decided (topsRow (levelAt 1) key (now (h .entry)) (now (x .entry)) (now (positions .entry)) (now (v .entry))) (proveResult (levelAt 1) key (now (h .entry)) (now (x .entry)) (now (positions .entry)) (now (u .entry)) (now (v .entry)) (now (r .entry)) (now (s .entry)) (now (alpha .entry))) (now (t .entry), now (a .entry)) ⌝ }
 {
-    constraints::write_polynomials(key, h, x, positions, v, p);
-    let size = key.n + key.m;
-    let d = key.degree();
-    if checkzero::tops(p, size, d, 1) != 0 {
+    if tops(key, h, x, positions, p, work) != 0 {
         return Answer::Refused(Refusal::TOP);
     }
     constraints::write_masked_witness(key, positions, u, t);
-    checkzero::proof(a, p, alpha, r, s, size, d, 1);
+    let n = key.n;
+    let m = key.m;
+    let d = key.degree();
+    checkzero::proof(a, n, m, d, h, x, positions, v, alpha, r, s, p, work, 1);
     Answer::Done
 }
 
@@ -116,8 +137,8 @@ fn work(
     requires { ⌜ firstOf (proveRows (levelAt 1) key (now h) (now x) (now positions) (now u) (now v) (now r) (now s) (now alpha) (now t) (now a)) ≡ Done ⌝ }
     ensures { λ o. ⌜ (o, (now (t .exit), now (a .exit))) ≡ decided (topsRow (levelAt 1) key (now (h .entry)) (now (x .entry)) (now (positions .entry)) (now (v .entry))) (proveResult (levelAt 1) key (now (h .entry)) (now (x .entry)) (now (positions .entry)) (now (u .entry)) (now (v .entry)) (now (r .entry)) (now (s .entry)) (now (alpha .entry))) (now (t .entry), now (a .entry)) ⌝ }
 {
-    let length = key.lengths(1).polynomials;
-    let mut polynomials = [0u16; POLYNOMIALS];
+    let mut elements = [0u16; ELEMENTS];
+    let mut work = [0u16; WORK];
     weigh(
         key,
         h,
@@ -130,7 +151,8 @@ fn work(
         alpha,
         t,
         a,
-        &mut polynomials[..length],
+        &mut elements,
+        &mut work,
     )
 }
 

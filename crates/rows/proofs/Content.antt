@@ -22,7 +22,7 @@ use Rattle.rows.proofs.SumLaws.{Rows}
 
 -- y added at place d of row j, of s elements
 module _ (R : Ring) where
-  monomial-same : (y : R .Carrier) (d : ℕ) → monomial R y d d ≡ y
+  pub monomial-same : (y : R .Carrier) (d : ℕ) → monomial R y d d ≡ y
   unfolding monomial
   monomial-same y zero = refl
   monomial-same y (suc d) = monomial-same y d

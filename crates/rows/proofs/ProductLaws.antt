@@ -18,13 +18,13 @@ module _ (R : Ring) where
 
   infixl 60 _⊕_
   infixl 70 _⊗_
-  cut-low : (s : ℕ) (P : ℕ → Carrier) (k : ℕ) → k < s → cut R s P k ≡ P k
+  pub cut-low : (s : ℕ) (P : ℕ → Carrier) (k : ℕ) → k < s → cut R s P k ≡ P k
   unfolding cut
   cut-low zero P k h = absurd (omega arith)
   cut-low (suc s) P zero h = refl
   cut-low (suc s) P (suc k) h = cut-low s (λ i. P (suc i)) k (omega arith)
 
-  cut-high : (s : ℕ) (P : ℕ → Carrier) (k : ℕ) → s ≤ k → cut R s P k ≡ 𝟘
+  pub cut-high : (s : ℕ) (P : ℕ → Carrier) (k : ℕ) → s ≤ k → cut R s P k ≡ 𝟘
   unfolding cut
   cut-high zero P k h = refl
   cut-high (suc s) P zero h = absurd (omega arith)
@@ -36,10 +36,10 @@ module _ (R : Ring) where
   cut-pick (suc s) P Q h l zero = h 0 (omega arith)
   cut-pick (suc s) P Q h l (suc k) = cut-pick s (λ i. P (suc i)) (λ i. Q (suc i)) (λ i m. h (suc i) (omega arith)) (λ i m. l (suc i) (omega arith)) k
 
-  cut-ext : (s : ℕ) (P Q : ℕ → Carrier) → ((k : ℕ) → k < s → P k ≡ Q k) → ((k : ℕ) → s ≤ k → Q k ≡ 𝟘) → cut R s P ≡ Q
+  pub cut-ext : (s : ℕ) (P Q : ℕ → Carrier) → ((k : ℕ) → k < s → P k ≡ Q k) → ((k : ℕ) → s ≤ k → Q k ≡ 𝟘) → cut R s P ≡ Q
   cut-ext s P Q h l = λ i k. cut-pick s P Q h l k i
 
-  cut-cong : (s : ℕ) (P Q : ℕ → Carrier) → ((k : ℕ) → k < s → P k ≡ Q k) → cut R s P ≡ cut R s Q
+  pub cut-cong : (s : ℕ) (P Q : ℕ → Carrier) → ((k : ℕ) → k < s → P k ≡ Q k) → cut R s P ≡ cut R s Q
   cut-cong s P Q h = cut-ext s P (cut R s Q) (λ k l. h k l ∙ sym (cut-low s Q k l)) (λ k l. cut-high s Q k l)
 
   up-cut : (s : ℕ) (P : ℕ → Carrier) (k : ℕ) → k ≤ s → up R (cut R s P) k ≡ up R P k
@@ -105,7 +105,7 @@ module _ (R : Ring) where
       row = cut-cong s (λ i. g (n * p + i)) (λ i. f (n * p + i)) (λ k m. l .ahead p (omega arith) ph k (omega arith))
 
   -- the product of t factors has degree at most t
-  tail-high : (d : ℕ) (w : ℕ → Bool) (v : ℕ → Carrier) (j t k : ℕ) → t < k → tail R d w v j t k ≡ 𝟘
+  pub tail-high : (d : ℕ) (w : ℕ → Bool) (v : ℕ → Carrier) (j t k : ℕ) → t < k → tail R d w v j t k ≡ 𝟘
   unfolding tail unit times up
   tail-high d w v j zero zero h = absurd (omega arith)
   tail-high d w v j zero (suc k) h = refl

@@ -24,7 +24,7 @@ module _ (R : Ring) where
   unfolding sum
   sum-more n c = ap (λ k. sum R k c) (sym (add-one n))
 
-  sum-cong : (n : ℕ) (c e : ℕ → Carrier) → ((i : ℕ) → i < n → c i ≡ e i) → sum R n c ≡ sum R n e
+  pub sum-cong : (n : ℕ) (c e : ℕ → Carrier) → ((i : ℕ) → i < n → c i ≡ e i) → sum R n c ≡ sum R n e
   unfolding sum
   sum-cong zero c e h = refl
   sum-cong (suc n) c e h = ap₂ _⊕_ (sum-cong n c e (λ i l. h i (omega arith))) (h n (omega arith))
@@ -109,3 +109,20 @@ module _ (R : Ring) where
       column = λ j a k b. r .column j a k b ∙ ap (λ y. y ⊕ c i j k) (t .column j a k b) ∙ sum-more i (λ q. c q j k);
       check = λ e a k b. r .check e a k b ∙ ap (λ y. y ⊕ h e i ⊗ sum R n (λ j. x j ⊗ c i j k)) (t .check e a k b) ∙ sum-more i (λ q. h e q ⊗ sum R n (λ j. x j ⊗ c q j k));
     }
+
+  -- rows of one element: y is added to the first n of them
+  module _ (f g : ℕ → Carrier) (n : ℕ) (y : Carrier) (t : AddedDown R f g 0 1 0 (λ e. y) n) where
+    pub single-added : (j : ℕ) (c : Carrier) → j < n → f (1 * j + 0) ≡ c → g j ≡ c ⊕ y
+    single-added j c l h = ap g (sym place) ∙ t .place j l ∙ ap (λ i. f i ⊕ y) (place ∙ sym same) ∙ ap (λ z. z ⊕ y) h
+      where
+        place : 0 + 1 * j + 0 ≡ j
+        place = omega arith
+
+        same : 1 * j + 0 ≡ j
+        same = omega arith
+
+    pub single-other : (e : ℕ) (c : Carrier) → f (1 * n + 1 * e + 0) ≡ c → g (n + e) ≡ c
+    single-other e c h = t .rest (n + e) (λ i l q. omega arith) ∙ ap f place ∙ h
+      where
+        place : n + e ≡ 1 * n + 1 * e + 0
+        place = omega arith

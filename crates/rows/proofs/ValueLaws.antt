@@ -1,5 +1,5 @@
 -- The verifier's product of a row's factors for every column, a factor at a time.
-use mathlib.Core.Path.{_≡_, refl, sym, _∙_, ap, ap₂}
+use mathlib.Core.Path.{_≡_, refl, sym, _∙_, ap, ap₂, subst₂}
 use mathlib.Core.Bool.{Bool, not}
 use Prim.Native.Nat.{ℕ, zero, suc, _+_, _-_, _^_, _≤_, _<_}
 use native.Mathlib.Numerals.{add-one}
@@ -7,8 +7,10 @@ use native.Mathlib.Omega.{arith}
 use borrow.Author.Count.{below-more}
 use Rattle.field.specs.Binary.{bit}
 use Rattle.field.specs.Ring.{Ring}
-use Rattle.rows.specs.Polynomial.{end, raise}
+use Rattle.field.specs.RingLaws.{ring}
+use Rattle.rows.specs.Polynomial.{chosen, up, times, unit, tail, end, raise}
 use Rattle.rows.specs.Step.{PutTwo, Twofold}
+use Rattle.rows.proofs.ProductLaws.{tail-high}
 use Rattle.rows.proofs.NumberLaws.{chosen-low, chosen-high, chosen-below, halves}
 
 module _ (R : Ring) where
@@ -35,7 +37,7 @@ module _ (R : Ring) where
   }
 
   module _ (d : ℕ) (w : ℕ → Bool) (q : ℕ → Carrier) (Δ : Carrier) where
-    end-below : (j t u : ℕ) → t ≤ d → u ≤ t → end R d w q Δ (j + 2 ^ t) u ≡ end R d w q Δ j u
+    pub end-below : (j t u : ℕ) → t ≤ d → u ≤ t → end R d w q Δ (j + 2 ^ t) u ≡ end R d w q Δ j u
     unfolding end
     end-below j t zero h l = refl
     end-below j t (suc u) h l = ap₂ (λ b P. (q (d - 1 - u) ⊕ bit R b ⊗ Δ) ⊗ P) (chosen-below d j t u w h (omega arith)) (end-below j t u h (omega arith))
@@ -55,3 +57,19 @@ module _ (R : Ring) where
     ends-more g g₁ t h i l = halves (λ j. g₁ j ≡ end R d w q Δ j (t + 1)) t
         (λ j a. l .low j a ∙ ap₂ (λ b P. (q (d - 1 - t) ⊕ bit R b ⊗ Δ) ⊗ P) (chosen-low d j t w h a) (i j a) ∙ ap (end R d w q Δ j) (sym (add-one t)))
         (λ j a. l .high j a ∙ ap₂ (λ b P. (q (d - 1 - t) ⊕ bit R b ⊗ Δ) ⊗ P) (chosen-high d j t w h a) (i j a ∙ sym (end-below j t t (omega arith) (omega arith))) ∙ ap (end R d w q Δ (j + 2 ^ t)) (sym (add-one t)))
+
+  -- the coefficient of X^t of the product of t factors is their product at q = 0 and Δ = 1: that of the bits
+  pub top-end : (d : ℕ) (w : ℕ → Bool) (v : ℕ → Carrier) (j t : ℕ) → tail R d w v j t t ≡ end R d w (λ k. 𝟘) 𝟙 j t
+  unfolding tail end unit times up
+  top-end d w v j zero = refl
+  top-end d w v j (suc t) = ap₂ (λ x y. bit R (chosen d w j (d - 1 - t)) ⊗ x ⊕ v (d - 1 - t) ⊗ y) (top-end d w v j t) (tail-high R d w v j t (suc t) (omega arith)) ∙ inner (bit R (chosen d w j (d - 1 - t))) (v (d - 1 - t)) (end R d w (λ k. 𝟘) 𝟙 j t)
+    where
+      inner : (b y x : Carrier) → b ⊗ x ⊕ y ⊗ 𝟘 ≡ (𝟘 ⊕ b ⊗ 𝟙) ⊗ x
+      inner b y x = simp ring
+
+  pub tops-more : (d : ℕ) (w : ℕ → Bool) (g g₁ : ℕ → Carrier) (t : ℕ) → t < d → Ends d w (λ k. 𝟘) 𝟙 g t
+      → Twofold R g g₁ (2 ^ t) (bit R (not (w (d - 1 - t)))) (bit R (w (d - 1 - t))) (2 ^ t) → Ends d w (λ k. 𝟘) 𝟙 g₁ (t + 1)
+  tops-more d w g g₁ t h i l = ends-more d w (λ k. 𝟘) 𝟙 g g₁ t h i (subst₂ (λ a b. Twofold R g g₁ (2 ^ t) a b (2 ^ t)) (plain (not (w (d - 1 - t)))) (plain (w (d - 1 - t))) l)
+    where
+      plain : (b : Bool) → bit R b ≡ 𝟘 ⊕ bit R b ⊗ 𝟙
+      plain b = simp ring

@@ -6,7 +6,7 @@ use Rattle.lists.specs.Words.{part}
 use Rattle.field.specs.declared.Level.{Level}
 use Rattle.field.specs.Level.{K}
 use Rattle.field.specs.Word.{element}
-use Rattle.field.specs.Packed.{coordinate, Holds}
+use Rattle.field.specs.Packed.{coordinate, Holds, Tabulates}
 use Rattle.rows.specs.Lists.{tab}
 
 -- element number i of a list of words
@@ -36,3 +36,8 @@ valueOf l ws = element l (tab (l .coordinates) (coordinate ws))
 -- packed words hold an element: that one
 abbrev pub Held : Level → List ℕ → Type 0
 Held l ws = Holds l ws (valueOf l ws)
+
+-- a table of multiples, of some element
+pub record Tabled (l : Level) (ts : List ℕ) : Type 0 where
+  pub factor : K l .Carrier
+  pub table : Tabulates l ts factor

@@ -2,7 +2,7 @@
 use mathlib.Core.Path.{_≡_}
 use mathlib.Core.Bool.{Bool, cond}
 use mathlib.Core.List.{List, _++_}
-use Prim.Native.Nat.{ℕ, _+_, _*_}
+use Prim.Native.Nat.{ℕ, _+_, _*_, _<_}
 use lib.ListN.{length, getD}
 use Rattle.lists.specs.Words.{concat}
 use Rattle.field.specs.declared.Level.{Level}
@@ -44,6 +44,11 @@ unfoldable pub polynomials : (l : Level) (n m d : ℕ) (h x positions v : List �
 polynomials l n m d h x positions v =
     concat n (λ j. concat (d + 1) (λ k. words l (column (K l) n d (entryOf l n h) (smallOf l x) (digitOf d positions) (elementOf l d v) j k)))
     ++ concat m (λ e. concat (d + 1) (λ k. words l (check (K l) n d (entryOf l n h) (smallOf l x) (digitOf d positions) (elementOf l d v) e k)))
+
+-- g 0 to g (n + m - 1) are their coefficients of X^d
+pub record Tops (l : Level) (n m d : ℕ) (h x positions v : List ℕ) (g : ℕ → K l .Carrier) : Type 0 where
+  pub columns : (j : ℕ) → j < n → g j ≡ column (K l) n d (entryOf l n h) (smallOf l x) (digitOf d positions) (elementOf l d v) j d
+  pub checks : (e : ℕ) → e < m → g (n + e) ≡ check (K l) n d (entryOf l n h) (smallOf l x) (digitOf d positions) (elementOf l d v) e d
 
 -- the words of the n + m values
 unfoldable pub values : (l : Level) (n m d : ℕ) (h x t q delta : List ℕ) → List ℕ

@@ -2,7 +2,8 @@
 // No branch and no index depends on positions, offsets, bits or numbers.
 ghost use mathlib.Core.Path.{_≡_};
 ghost use mathlib.Core.Bool.{cond};
-ghost use Prim.Native.Nat.{_+_, _*_, _^_, _<_, _≤_};
+ghost use mathlib.Core.List.{List};
+ghost use Prim.Native.Nat.{ℕ, _+_, _*_, _^_, _<_, _≤_};
 ghost use lib.ListN.{length, getD, replicate};
 ghost use Rattle.lists.specs.Words.{put};
 ghost use Rattle.field.specs.Binary.{xor};
@@ -12,12 +13,12 @@ ghost use Rattle.rows.specs.Lists.{tab};
 ghost use Rattle.rows.specs.Elements.{el, Fits, Words, Bits, valueOf, Held};
 ghost use Rattle.rows.specs.Polynomial.{digit, z, value};
 ghost use Rattle.rows.specs.Step.{Step, Shared};
-ghost use Rattle.rows.specs.Outcome.{LentKey, smallOf, entryOf, polynomials, values, maskedWitness};
+ghost use Rattle.rows.specs.Outcome.{LentKey, smallOf, entryOf, polynomials, Tops, values, maskedWitness};
 use field::Element;
 
 pub mod elements;
 pub mod products;
-mod sums;
+pub mod sums;
 
 // Fills s with zeros.
 pub fn clear(s: &mut [u16])
@@ -81,6 +82,54 @@ pub fn polynomials(
         i += 1;
     }
     sums::tops(dst, n, d + 1, d, Element::one(level), level);
+}
+
+// Adds row i's share to the n + m coefficients of X^d. work takes those of its products.
+fn top_row(
+    dst: &mut [u16],
+    n: usize,
+    m: usize,
+    d: usize,
+    h: &[u16],
+    x: &[u16],
+    i: usize,
+    position: u64,
+    work: &mut [u16],
+    level: usize,
+)
+    requires { ⌜ Words (levelAt level) (now dst) × Words (levelAt level) (now work) × LentKey (levelAt level) n m (now h) (now x) ⌝ }
+    requires { ⌜ (d < 64) × (n ≤ 2 ^ d) × (i < n) × Fits (levelAt level) (1 * n + 1 * m) (length (now dst)) × Fits (levelAt level) (2 ^ d) (length (now work)) ⌝ }
+    ensures { λ _. ⌜ Step (levelAt level) (now (dst .entry)) (now (dst .exit)) (λ f g. (v : ℕ → K (levelAt level) .Carrier) → Shared (K (levelAt level)) f g n m 1 (λ j k. z (K (levelAt level)) d (digit d position) v j d) (smallOf (levelAt level) (now (x .entry))) (λ e. entryOf (levelAt level) n (now (h .entry)) e i)) × Words (levelAt level) (now (work .exit)) ⌝ }
+{
+    products::top_tree(work, position, d, level);
+    sums::share(dst, work, n, m, 1, h, x, i, level);
+}
+
+// The coefficients of X^d of the n + m polynomials, without any product: they are the same for all offsets.
+// work is room for the coefficients of one row: 2^d elements.
+pub fn tops(
+    dst: &mut [u16],
+    n: usize,
+    m: usize,
+    d: usize,
+    h: &[u16],
+    x: &[u16],
+    positions: &[u8],
+    work: &mut [u16],
+    level: usize,
+)
+    requires { ⌜ LentKey (levelAt level) n m (now h) (now x) × (d < 64) × (n ≤ 2 ^ d) × (length (now positions) ≡ n) × Fits (levelAt level) (n + m) (length (now dst)) × Fits (levelAt level) (2 ^ d) (length (now work)) ⌝ }
+    ensures { λ _. ⌜ Step (levelAt level) (now (dst .entry)) (now (dst .exit)) (λ f g. (v : List ℕ) → Tops (levelAt level) n m d (now (h .entry)) (now (x .entry)) (now (positions .entry)) v g) ⌝ }
+{
+    clear(dst);
+    clear(work);
+    let mut i: usize = 0;
+    while i < n {
+        let position = positions[i] as u64;
+        top_row(dst, n, m, d, h, x, i, position, work, level);
+        i += 1;
+    }
+    sums::tops(dst, n, 1, 0, Element::one(level), level);
 }
 
 // Adds row i's share to the n + m values. The row's bits and numbers stand from at on; work takes its products.

@@ -6,8 +6,8 @@ ghost use lib.ListN.{length, getD};
 ghost use Rattle.field.specs.Binary.{bit};
 ghost use Rattle.field.specs.Level.{levelAt, K};
 ghost use Rattle.field.specs.Word.{odd};
-ghost use Rattle.field.specs.Packed.{Holds};
-ghost use Rattle.rows.specs.Elements.{el, Fits, Words, Bits, valueOf, Held};
+ghost use Rattle.field.specs.Packed.{Holds, Tabulates};
+ghost use Rattle.rows.specs.Elements.{el, Fits, Words, Bits, valueOf, Held, Tabled};
 ghost use Rattle.rows.specs.Polynomial.{digit, z, value, raise};
 ghost use Rattle.rows.specs.Step.{Step, PutTwo, Factored, Doubled, Twofold};
 use crate::elements;
@@ -26,12 +26,11 @@ fn put_both(buf: &mut [u16], a: usize, b: usize, x: Element, y: Element, w: u64,
 }
 
 // The polynomial of s coefficients at element a becomes its product with the complement of w times X plus v, at a,
-// and with w times X plus v, at b. One product with v serves both.
-fn split(buf: &mut [u16], a: usize, b: usize, s: usize, w: u64, v: Element, level: usize)
-    requires { ⌜ Words (levelAt level) (now buf) × Held (levelAt level) (v .words) × (w < 2) × (a + s < b) × Fits (levelAt level) (b + s + 1) (length (now buf)) ⌝ }
-    ensures { λ _. ⌜ Step (levelAt level) (now (buf .entry)) (now (buf .exit)) (λ f g. Factored (K (levelAt level)) f g a b s (odd w) (valueOf (levelAt level) (v .words)) (s + 1)) ⌝ }
+// and with w times X plus v, at b, for the table of v's multiples. One product with v serves both.
+fn split(buf: &mut [u16], a: usize, b: usize, s: usize, w: u64, multiples: Multiples, level: usize)
+    requires { ⌜ Words (levelAt level) (now buf) × Tabled (levelAt level) (multiples .words) × (w < 2) × (a + s < b) × Fits (levelAt level) (b + s + 1) (length (now buf)) ⌝ }
+    ensures { λ _. ⌜ ((y : K (levelAt level) .Carrier) → Tabulates (levelAt level) (multiples .words) y → Step (levelAt level) (now (buf .entry)) (now (buf .exit)) (λ f g. Factored (K (levelAt level)) f g a b s (odd w) y (s + 1))) ⌝ }
 {
-    let multiples = Multiples::of(v, level);
     let mut carry = Element::zero(level);
     let mut e: usize = 0;
     while e < s {
@@ -52,15 +51,15 @@ fn split(buf: &mut [u16], a: usize, b: usize, s: usize, w: u64, v: Element, leve
 }
 
 // The first h rows of n elements, polynomials of s coefficients, become the first 2 h: each product of its row with either factor.
-fn double(buf: &mut [u16], n: usize, h: usize, s: usize, w: u64, v: Element, level: usize)
-    requires { ⌜ Words (levelAt level) (now buf) × Held (levelAt level) (v .words) × (w < 2) × (s < n) × Fits (levelAt level) (n * h + n * h) (length (now buf)) ⌝ }
-    ensures { λ _. ⌜ Step (levelAt level) (now (buf .entry)) (now (buf .exit)) (λ f g. Doubled (K (levelAt level)) f g n h s (odd w) (valueOf (levelAt level) (v .words)) h) ⌝ }
+fn double(buf: &mut [u16], n: usize, h: usize, s: usize, w: u64, multiples: Multiples, level: usize)
+    requires { ⌜ Words (levelAt level) (now buf) × Tabled (levelAt level) (multiples .words) × (w < 2) × (s < n) × Fits (levelAt level) (n * h + n * h) (length (now buf)) ⌝ }
+    ensures { λ _. ⌜ ((y : K (levelAt level) .Carrier) → Tabulates (levelAt level) (multiples .words) y → Step (levelAt level) (now (buf .entry)) (now (buf .exit)) (λ f g. Doubled (K (levelAt level)) f g n h s (odd w) y h)) ⌝ }
 {
     let half = n * h;
     let mut a: usize = 0;
     let mut p: usize = 0;
     while p < h {
-        split(buf, a, a + half, s, w, v, level);
+        split(buf, a, a + half, s, w, multiples, level);
         a += n;
         p += 1;
     }
@@ -77,7 +76,8 @@ pub fn tree(buf: &mut [u16], position: u64, offsets: &[u16], at: usize, d: usize
     while t < d {
         let w = (position >> t) % 2;
         let v = elements::get(offsets, at + (d - 1 - t), level);
-        double(buf, d + 1, h, t + 1, w, v, level);
+        let multiples = Multiples::of(v, level);
+        double(buf, d + 1, h, t + 1, w, multiples, level);
         h += h;
         t += 1;
     }
@@ -129,6 +129,36 @@ pub fn value_tree(
         let low = q.plus(delta.masked(complement, level), level);
         let high = q.plus(delta.masked(w, level), level);
         twin(buf, h, low, high, level);
+        h += h;
+        t += 1;
+    }
+}
+
+// The first h elements become the first 2 h: each times the complement of w, and then each times w.
+fn fork(buf: &mut [u16], h: usize, w: u64, level: usize)
+    requires { ⌜ Words (levelAt level) (now buf) × (w < 2) × Fits (levelAt level) (h + h) (length (now buf)) ⌝ }
+    ensures { λ _. ⌜ Step (levelAt level) (now (buf .entry)) (now (buf .exit)) (λ f g. Twofold (K (levelAt level)) f g h (bit (K (levelAt level)) (not (odd w))) (bit (K (levelAt level)) (odd w)) h) ⌝ }
+{
+    let complement = 1 - w;
+    let mut p: usize = 0;
+    while p < h {
+        let old = elements::get(buf, p, level);
+        let low = old.masked(complement, level);
+        elements::put_two(buf, p, low, p + h, old.masked(w, level), level);
+        p += 1;
+    }
+}
+
+// The coefficient of X^d of z of a row for every column, whatever the offsets: 1 at the row's position, and 0 elsewhere.
+pub fn top_tree(buf: &mut [u16], position: u64, d: usize, level: usize)
+    requires { ⌜ Words (levelAt level) (now buf) × (d < 64) × Fits (levelAt level) (2 ^ d) (length (now buf)) ⌝ }
+    ensures { λ _. ⌜ Step (levelAt level) (now (buf .entry)) (now (buf .exit)) (λ f g. (v : ℕ → K (levelAt level) .Carrier) → (j : ℕ) → j < 2 ^ d → g j ≡ z (K (levelAt level)) d (digit d position) v j d) ⌝ }
+{
+    elements::put(buf, 0, Element::one(level), level);
+    let mut h: usize = 1;
+    let mut t: usize = 0;
+    while t < d {
+        fork(buf, h, (position >> t) % 2, level);
         h += h;
         t += 1;
     }

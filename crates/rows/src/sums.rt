@@ -10,9 +10,10 @@ ghost use Rattle.rows.specs.Outcome.{LentKey, smallOf, entryOf};
 use crate::elements;
 use field::Element;
 use field::Multiples;
+use field::combination;
 
 // Adds the first n elements of src to those of dst.
-fn add(dst: &mut [u16], src: &[u16], n: usize, level: usize)
+pub fn add(dst: &mut [u16], src: &[u16], n: usize, level: usize)
     requires { ⌜ Words (levelAt level) (now dst) × Words (levelAt level) (now src) × Fits (levelAt level) n (length (now dst)) × Fits (levelAt level) n (length (now src)) ⌝ }
     ensures { λ _. ⌜ Step (levelAt level) (now (dst .entry)) (now (dst .exit)) (λ f g. Added (K (levelAt level)) f g (el (levelAt level) (now (src .entry))) n) ⌝ }
 {
@@ -28,16 +29,16 @@ fn mix(src: &[u16], k: usize, s: usize, x: &[u16], n: usize, level: usize) -> El
     requires { ⌜ Words (levelAt level) (now src) × Within (levelAt level) (now x) × (n ≤ length (now x)) × (k < s) × Fits (levelAt level) (s * n) (length (now src)) ⌝ }
     ensures { λ r. ⌜ Holds (levelAt level) (r .words) (sum (K (levelAt level)) n (λ j. K (levelAt level) .mul (smallOf (levelAt level) (now (x .entry)) j) (el (levelAt level) (now (src .entry)) (s * j + k)))) ⌝ }
 {
-    let mut total = Element::zero(level);
+    let mut parts = [0u64; 33];
     let mut at: usize = 0;
     let mut j: usize = 0;
     while j < n {
         let term = elements::get(src, at + k, level);
-        total = total.plus(term.scaled(x[j], level), level);
+        combination::add(&mut parts, term, x[j], level);
         at += s;
         j += 1;
     }
-    total
+    combination::total(&parts, level)
 }
 
 // Adds y times entry i of row e of H to element k of row e of dst, of s elements from a on.

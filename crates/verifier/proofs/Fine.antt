@@ -31,13 +31,6 @@ module _ (number : ℕ) (key : Key) where
   abbrev len : Lengths
   len = lengths l key
 
-  -- n + m is at most 127, so the values take at most 1524 words
-  pub few : Sized l key → key .n + key .m ≤ 127
-  few s = omega (arith, s .most, s .fewer, bounded number .most)
-
-  pub values-room : Sized l key → len .values ≤ 1524
-  values-room s = mul-le-mul (bounded number .narrow) (few s)
-
   pub some-degree : Sized l key → 1 ≤ degree (key .n)
   some-degree s = degree-some (key .n) (s .two) (omega (arith, s .most, bounded number .most))
 

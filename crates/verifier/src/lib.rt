@@ -10,13 +10,14 @@ ghost use Rattle.key.specs.Key.{Sized, lengths};
 ghost use Rattle.constraints.specs.Entry.{system};
 ghost use Rattle.checkzero.specs.Slices.{accepts};
 ghost use Rattle.verifier.specs.Entry.{verifyLent, verifyRows, verifyOutcome, Judges};
+use folding::values;
 use key::Key;
 use refusal::Answer;
 use refusal::Verdict;
 use rows::elements;
 
-// Words of work space: n + m values, at the widest level.
-const VALUES: usize = 1524;
+// Words of work space: an element for each of 2^d columns, at the widest level.
+const COLUMNS: usize = 768;
 
 // Zero exactly when each slice has its length.
 fn lengths(
@@ -65,7 +66,8 @@ fn refused(
     key::checks(slices, elements, key::over(t, 1), coordinates, 0)
 }
 
-// Zero exactly when a at the challenge equals the weighted sum of the values plus the mask sum. The values are made in the room p.
+// Zero exactly when a at the challenge equals the weighted sum of the values plus the mask sum. The last four slices are room for an
+// element for each of 2^d columns.
 fn difference(
     key: Key,
     h: &[u16],
@@ -76,16 +78,35 @@ fn difference(
     masks: &[u16],
     alpha: &[u16],
     a: &[u16],
-    p: &mut [u16],
+    beta: &mut [u16],
+    scaled: &mut [u16],
+    columns: &mut [u16],
+    second: &mut [u16],
 ) -> u16
     requires { ⌜ firstOf (verifyRows (levelAt 1) key (now h) (now x) (now t) (now q) (now delta) (now masks) (now alpha) (now a)) ≡ Done ⌝ }
-    requires { ⌜ length (now p) ≡ lengths (levelAt 1) key .values ⌝ }
+    requires { ⌜ (length (now beta) ≡ 768) × (length (now scaled) ≡ 768) × (length (now columns) ≡ 768) × (length (now second) ≡ 768) ⌝ }
     ensures { λ o. ⌜ eqb o 0 ≡ accepts (levelAt 1) (system (levelAt 1) key (now (h .entry)) (now (x .entry))) (now (t .entry)) (now (q .entry)) (now (delta .entry)) (now (masks .entry)) (now (alpha .entry)) (now (a .entry)) ⌝ }
 {
-    constraints::write_values(key, h, x, t, q, delta, p);
+    let n = key.n;
+    let m = key.m;
     let d = key.degree();
+    let values = values::weighted(
+        n,
+        m,
+        d,
+        h,
+        x,
+        t,
+        q,
+        delta,
+        alpha,
+        beta,
+        scaled,
+        columns,
+        second,
+        1,
+    );
     let challenge = elements::get(delta, 0, 1);
-    let values = checkzero::weighted_sum(p, alpha, key.n + key.m, 1);
     let expected = values.plus(checkzero::mask_sum(masks, challenge, d - 1, 1), 1);
     let given = checkzero::evaluate(a, challenge, d, 1);
     given.plus(expected, 1).nonzero(1)
@@ -106,8 +127,10 @@ fn work(
     requires { ⌜ firstOf (verifyRows (levelAt 1) key (now h) (now x) (now t) (now q) (now delta) (now masks) (now alpha) (now a)) ≡ Done ⌝ }
     ensures { λ o. ⌜ eqb o 0 ≡ accepts (levelAt 1) (system (levelAt 1) key (now (h .entry)) (now (x .entry))) (now (t .entry)) (now (q .entry)) (now (delta .entry)) (now (masks .entry)) (now (alpha .entry)) (now (a .entry)) ⌝ }
 {
-    let length = key.lengths(1).values;
-    let mut values = [0u16; VALUES];
+    let mut beta = [0u16; COLUMNS];
+    let mut scaled = [0u16; COLUMNS];
+    let mut columns = [0u16; COLUMNS];
+    let mut second = [0u16; COLUMNS];
     difference(
         key,
         h,
@@ -118,7 +141,10 @@ fn work(
         masks,
         alpha,
         a,
-        &mut values[..length],
+        &mut beta,
+        &mut scaled,
+        &mut columns,
+        &mut second,
     )
 }
 

@@ -1,35 +1,50 @@
-//! The time of a call, and the table.
+//! The time of a call.
 
 use std::hint::black_box;
 use std::time::{Duration, Instant};
 
 /// The least time of one repetition: short, so that some repetitions are not
 /// interrupted.
-const REPETITION: Duration = Duration::from_micros(200);
+pub const REPETITION: Duration = Duration::from_micros(200);
 
 /// The number of repetitions, of which the best counts.
-const REPETITIONS: usize = 2000;
+pub const REPETITIONS: usize = 2000;
 
 /// After this time an implementation of a row is not repeated any more.
-const LONGEST: Duration = Duration::from_secs(1);
-
-/// The implementations of a row, in the order of the columns.
-const IMPLEMENTATIONS: [&str; 3] = ["library", "Rust", "reference"];
+const LONGEST: Duration = Duration::from_millis(800);
 
 /// Calls an entry as many times as it is told.
 pub type Calls<'a> = Box<dyn FnMut(usize) + 'a>;
 
-/// A row of the table: the same work by each implementation.
-pub struct Row<'a> {
+/// What a row of the table is about.
+#[derive(Clone, Debug, PartialEq)]
+pub struct Subject {
     /// The entry.
     pub entry: &'static str,
-    /// The sizes, or how the calls depend on each other.
+    /// The sizes n and m, where it has a key.
+    pub sizes: Option<(usize, usize)>,
+    /// What it is called with, where it has none.
     pub form: &'static str,
-    /// The calls of the library, of the same algorithm in Rust where there is
-    /// one, and of the reference.
-    pub calls: [Option<Calls<'a>>; 3],
     /// The number of products in K that one call of the library needs.
-    pub products: usize,
+    pub products: Option<usize>,
+}
+
+/// A row of the table: the same work by each implementation that has it.
+pub struct Row<'a> {
+    /// What it is about.
+    pub subject: Subject,
+    /// The calls of each implementation.
+    pub calls: Vec<Option<Calls<'a>>>,
+}
+
+/// A row with what was measured, for each implementation.
+pub struct Measured {
+    /// What it is about.
+    pub subject: Subject,
+    /// The best times of one call in nanoseconds.
+    pub times: Vec<Option<f64>>,
+    /// The instructions of one call.
+    pub instructions: Vec<Option<u64>>,
 }
 
 /// The time of a number of calls.
@@ -80,56 +95,30 @@ impl<'a> Repetitions<'a> {
     }
 }
 
-/// A number with some decimals, or a dash.
-fn decimal(number: Option<f64>, decimals: usize) -> String {
-    number.map_or("-".to_string(), |number| format!("{number:.decimals$}"))
-}
-
-/// Times the rows and prints the table. All rows and implementations take
-/// turns, so that a busy machine slows all of them down alike. The library's
-/// time of row `product` is the time of one product.
-pub fn print_table(rows: Vec<Row>, product: usize) {
-    let mut measured = Vec::new();
-    for row in rows {
-        let repetitions = row.calls.map(|calls| calls.map(Repetitions::new));
-        measured.push((row.entry, row.form, row.products, repetitions));
-    }
-    for _ in 0..REPETITIONS {
-        for (.., implementations) in &mut measured {
-            let present = implementations.iter_mut().flatten();
-            present.for_each(Repetitions::repeat);
-        }
-    }
-
-    println!(
-        "ns for one call, best of up to {REPETITIONS} repetitions; output buffers not cleared"
-    );
-    println!("products: those in K that the library needs, each taken at its time of an independent call");
-    print!("{:<11} {:<11}", "entry", "calls");
-    for name in IMPLEMENTATIONS {
-        print!(" {name:>12}");
-    }
-    print!(" {:>13} {:>18}", "library/Rust", "library/reference");
-    println!(" {:>9} {:>17}", "products", "library/products");
-
-    let times: Vec<[Option<f64>; 3]> = measured
-        .iter()
-        .map(|(.., implementations)| {
-            let present = implementations.each_ref().map(Option::as_ref);
-            present.map(|repetitions| repetitions.map(Repetitions::nanoseconds))
+/// Times the rows, in the order of their lists of instructions. All rows and
+/// implementations take turns, so that a busy machine slows all of them down
+/// alike.
+pub fn measured(rows: Vec<Row>, instructions: Vec<Vec<Option<u64>>>) -> Vec<Measured> {
+    let (subjects, mut repetitions): (Vec<_>, Vec<Vec<_>>) = rows
+        .into_iter()
+        .map(|row| {
+            let calls = row.calls.into_iter();
+            let repetitions = calls.map(|calls| calls.map(Repetitions::new)).collect();
+            (row.subject, repetitions)
         })
-        .collect();
-    let one_product = times[product][0];
-    let ratio = |a: Option<f64>, b: Option<f64>| Some(a? / b?);
-    for ((entry, form, products, _), times) in measured.iter().zip(&times) {
-        print!("{entry:<11} {form:<11}");
-        for &time in times {
-            print!(" {:>12}", decimal(time, 1));
-        }
-        let [library, rust, reference] = *times;
-        let in_products = ratio(library, one_product).map(|ratio| ratio / *products as f64);
-        print!(" {:>13}", decimal(ratio(library, rust), 3));
-        print!(" {:>18}", decimal(ratio(library, reference), 4));
-        println!(" {products:>9} {:>17}", decimal(in_products, 3));
+        .unzip();
+    for _ in 0..REPETITIONS {
+        let all = repetitions.iter_mut().flatten().flatten();
+        all.for_each(Repetitions::repeat);
     }
+    let rows = subjects.into_iter().zip(repetitions).zip(instructions);
+    rows.map(|((subject, repetitions), instructions)| Measured {
+        subject,
+        times: repetitions
+            .iter()
+            .map(|one| one.as_ref().map(Repetitions::nanoseconds))
+            .collect(),
+        instructions,
+    })
+    .collect()
 }

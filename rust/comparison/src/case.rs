@@ -29,6 +29,21 @@ pub struct Entry {
     pub table: Option<Table>,
     /// The groups of cases.
     pub groups: &'static [Group],
+    /// How many cases of some groups reach an answer, at least.
+    pub least: &'static [Least],
+}
+
+/// The least number of cases of a group, for each of these n, that reach an
+/// answer.
+pub struct Least {
+    /// The name of the group.
+    pub group: &'static str,
+    /// The first numbers that the entry takes.
+    pub n: &'static [usize],
+    /// The answer.
+    pub answer: u32,
+    /// The number of cases.
+    pub count: usize,
 }
 
 /// A cell of a table: the names of its row and of its column.

@@ -1,6 +1,6 @@
 //! The calls, the comparisons and the report.
 
-use crate::case::{Call, Case, Cell, Entry, Group, Table};
+use crate::case::{Call, Case, Cell, Entry, Group, Least, Table};
 use crate::lent::Lent;
 use crate::program;
 use crate::vectors::{self, Outcome, Setting};
@@ -257,7 +257,8 @@ impl Run {
         }
     }
 
-    /// Runs one group and gives its tally; the cells are counted on.
+    /// Runs one group and gives its tally; the cells are counted on. Each answer
+    /// for which the entry states a least number must be reached so often.
     fn group(
         &mut self,
         entry: &Entry,
@@ -266,12 +267,16 @@ impl Run {
         cells: &mut Cells,
     ) -> Tally {
         let mut tally = Tally::new();
+        let mut of_n: BTreeMap<(usize, u32), usize> = BTreeMap::new();
         let mut inputs = 0;
         let mut differences = 0;
         let mut generator = generator_of(self.seed, entry.name, group.name);
         (group.cases)(&mut generator, &mut |case| {
             let (answer, difference) = self.compare(entry, &case, spoil, cells);
             *tally.entry(answer).or_default() += 1;
+            if let Some(&n) = case.numbers.first() {
+                *of_n.entry((n, answer)).or_default() += 1;
+            }
             if let Some(difference) = difference {
                 if differences == 0 {
                     println!(
@@ -290,6 +295,17 @@ impl Run {
         }
         if differences > 0 {
             faults.push(format!("{differences} differences"));
+        }
+        for least in entry.least.iter().filter(|least| least.group == group.name) {
+            let Least { answer, count, .. } = least;
+            for n in least.n {
+                let found = of_n.get(&(*n, *answer)).copied().unwrap_or(0);
+                if found < *count {
+                    faults.push(format!(
+                        "{found} inputs with n = {n} reached {answer}, at least {count} must"
+                    ));
+                }
+            }
         }
         let text = format!(
             "{}, {}: {inputs} inputs, answers {}",
@@ -326,6 +342,11 @@ impl Run {
                 faults.push(format!("no input reached {answer}"));
             } else if !known {
                 faults.push(format!("{answer} is no answer of this entry"));
+            }
+        }
+        for least in entry.least {
+            if !entry.groups.iter().any(|group| group.name == least.group) {
+                faults.push(format!("no group {}", least.group));
             }
         }
         let inputs: usize = total.values().sum();

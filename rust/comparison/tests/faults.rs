@@ -2,7 +2,7 @@
 //! are run in the place of the library, and other programs in the place of
 //! perkcheck.
 
-use comparison::case::{Call, Case, Entry, Group, Stated, Table};
+use comparison::case::{Call, Case, Entry, Group, Least, Stated, Table};
 use comparison::lent::Lent;
 use comparison::program::{self, File};
 use comparison::run::Run;
@@ -60,6 +60,7 @@ fn entry(library: Call, groups: &'static [Group]) -> Entry {
         reference: right,
         table: None,
         groups,
+        least: &[],
     }
 }
 
@@ -196,6 +197,42 @@ fn group_without_a_case() {
         cases: |_, _| {},
     };
     assert!(!passes(entry(right, &[ALL, EMPTY]), None));
+}
+
+/// The entry with a number, and a least number of cases.
+fn with_least(group: &'static str, n: &'static [usize], answer: u32, count: usize) -> Entry {
+    const NUMBERED: Group = Group {
+        name: "numbered",
+        cases: |generator, each| {
+            for (n, input, answer) in [(64, 0, 0), (64, 1, 0), (33, 1, 0), (64, 2, 5)] {
+                let numbers = vec![n];
+                let case = case(generator, &[input], 1, answer);
+                each(Case { numbers, ..case });
+            }
+        },
+    };
+    let least = Least {
+        group,
+        n,
+        answer,
+        count,
+    };
+    Entry {
+        numbers: &["n"],
+        least: Box::leak(Box::new([least])),
+        ..entry(right, &[ALL, NUMBERED])
+    }
+}
+
+#[test]
+fn too_few_cases_of_one_size() {
+    assert!(passes(with_least("numbered", &[64], 0, 2), None));
+    assert!(passes(with_least("numbered", &[64], 5, 1), None));
+    assert!(passes(with_least("numbered", &[64, 33], 0, 1), None));
+    assert!(!passes(with_least("numbered", &[64], 0, 3), None));
+    assert!(!passes(with_least("numbered", &[64, 33], 0, 2), None));
+    assert!(!passes(with_least("numbered", &[33], 5, 1), None));
+    assert!(!passes(with_least("others", &[64], 0, 0), None));
 }
 
 #[test]

@@ -215,7 +215,7 @@ pub fn constraints(
 /// - `delta`: the challenge, 12 words.
 /// - `values`: 12 (n + m) words, written; value 0 first.
 ///
-/// Stack: under 20 KiB.
+/// Stack: under 6 KiB.
 ///
 /// # Errors
 ///
@@ -271,7 +271,7 @@ pub fn values(
 ///
 /// No branch and no address is meant to depend on what the prover holds, masks
 /// included, other than the decision to refuse; this is not part of the proof.
-/// Stack: under 48 KiB.
+/// Stack: under 24 KiB.
 ///
 /// # Errors
 ///
@@ -340,7 +340,7 @@ pub fn prove(
 /// caller's, who must take the challenge only after the prover's commitment and
 /// check that the correlations are consistent.
 ///
-/// Stack: under 24 KiB.
+/// Stack: under 12 KiB.
 ///
 /// # Errors
 ///

@@ -8,25 +8,25 @@ slice-aggregate-load : tie.Need-slice-aggregate-load
 slice-aggregate-load c = search needs
 
 load-requires : tie.Need-load-requires
-load-requires c κs = omega (arith, elements (c .before .before .before .before .before .args .bytes .now) (c .before .before .before .before .before .pre))
+load-requires c κs = (c .before .before .before .before .before .pre, omega (arith, elements (c .before .before .before .before .before .args .bytes .now) (c .before .before .before .before .before .pre)))
 
 slice-aggregate-load-2 : tie.Need-slice-aggregate-load-2
 slice-aggregate-load-2 c = search needs
 
 load-requires-2 : tie.Need-load-requires-2
-load-requires-2 c κs = omega (arith, masks (c .before .before .before .before .before .before .before .before .args .bytes .now) (c .before .before .before .before .before .before .before .before .pre))
+load-requires-2 c κs = (c .before .before .before .before .before .before .before .before .pre, omega (arith, masks (c .before .before .before .before .before .before .before .before .args .bytes .now) (c .before .before .before .before .before .before .before .before .pre)))
 
 slice-aggregate-load-3 : tie.Need-slice-aggregate-load-3
 slice-aggregate-load-3 c = search needs
 
 load-requires-3 : tie.Need-load-requires-3
-load-requires-3 c κs = omega (arith, one (c .before .before .before .before .before .before .before .before .before .before .before .args .bytes .now) (c .before .before .before .before .before .before .before .before .before .before .before .pre))
+load-requires-3 c κs = (c .before .before .before .before .before .before .before .before .before .before .before .pre, omega (arith, one (c .before .before .before .before .before .before .before .before .before .before .before .args .bytes .now) (c .before .before .before .before .before .before .before .before .before .before .before .pre)))
 
 slice-aggregate-load-4 : tie.Need-slice-aggregate-load-4
 slice-aggregate-load-4 c = search needs
 
 load-requires-4 : tie.Need-load-requires-4
-load-requires-4 c κs = omega (arith, values (c .before .before .before .before .before .before .before .before .before .before .before .before .before .before .args .bytes .now) (c .before .before .before .before .before .before .before .before .before .before .before .before .before .before .pre))
+load-requires-4 c κs = (c .before .before .before .before .before .before .before .before .before .before .before .before .before .before .pre, omega (arith, values (c .before .before .before .before .before .before .before .before .before .before .before .before .before .before .args .bytes .now) (c .before .before .before .before .before .before .before .before .before .before .before .before .before .before .pre)))
 
 check-field-requires : tie.Need-check-field-requires
 check-field-requires c κs = search needs

@@ -5,10 +5,10 @@ use Rattle.checkfile.proofs.load.Statement.{statement}
 use Rattle.checkfile.proofs.load.Tie as tie
 
 check-field-requires : tie.Need-check-field-requires
-check-field-requires c κs = search needs
+check-field-requires c κs = c .before .before .pre .0
 
 words-into-requires : tie.Need-words-into-requires
-words-into-requires c κs = rw (c .before .check-field .ensures .bytes) (c .before .before .before .before .pre)
+words-into-requires c κs = rw (c .before .check-field .ensures .bytes) (c .before .before .before .before .pre .1)
 
 same-length : tie.Need-same-length
 same-length c = search needs

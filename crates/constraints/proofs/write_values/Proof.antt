@@ -26,7 +26,7 @@ values-requires c κs =
     let p = c .before .before .before .before .before .before .before .before .before .pre in
     let r = room 1 (a .key) (p .0 .0) in
     subst (λ d. (LentKey (levelAt 1) (a .key .n) (a .key .m) (a .h .now) (a .x .now) × Words (levelAt 1) (a .q .now) × Words (levelAt 1) (a .delta .now) × Bits (a .t .now) × (0 < levelAt 1 .coordinates) × (a .key .n ≤ 2 ^ d))
-    × ((length (a .t .now) ≡ d * a .key .n) × (length (a .q .now) ≡ levelAt 1 .coordinates * (d * a .key .n)) × (length (a .delta .now) ≡ levelAt 1 .coordinates) × (length (a .p .now) ≡ levelAt 1 .coordinates * (a .key .n + a .key .m)) × Fits (levelAt 1) (2 ^ d) 5376))
+    × ((length (a .t .now) ≡ d * a .key .n) × (length (a .q .now) ≡ levelAt 1 .coordinates * (d * a .key .n)) × (length (a .delta .now) ≡ levelAt 1 .coordinates) × (length (a .p .now) ≡ levelAt 1 .coordinates * (a .key .n + a .key .m)) × Fits (levelAt 1) (2 ^ d) 768))
     (sym (c .before .degree .ensures))
     ((p .0 .1, p .0 .3, p .0 .4, p .0 .2, bounded 1 .coordinates, r .columns), (p .1 .0 ∙ mul-comm (a .key .n) (degree (a .key .n)), p .1 .1 ∙ elements-columns 1 (a .key), p .1 .2, p .1 .3, r .values))
 

@@ -70,6 +70,7 @@ pub const CHECK: Entry = Entry {
         files::other_kind::<Check>(),
         files::damaged::<Check>(),
     ],
+    least: &[],
 };
 
 /// The columns of a reader, and Rejected.

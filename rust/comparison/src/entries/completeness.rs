@@ -48,6 +48,7 @@ pub const COMPLETENESS: Entry = Entry {
     reference: by_the_key,
     table: None,
     groups: &[SOLVING, EVERY_WORD, OTHERS, ALL_POSITIONS],
+    least: &[],
 };
 
 // The further inputs.

@@ -1,8 +1,10 @@
 //! The entries constraints and values.
 
 use super::keyed::{self, set_bytes, set_words, Keyed, Slice, DELTA, H, POSITIONS, Q, T, U, V, X};
+use super::rounds::{self, Round};
+use super::witnesses;
 use super::{number, DONE};
-use crate::case::{Case, Entry, Group, Stated};
+use crate::case::{Case, Entry, Group, Least, Stated};
 use crate::perk;
 use reference::constraint::masked_witness;
 use reference::key::{bits, rows, witness, Sizes};
@@ -59,6 +61,7 @@ pub const CONSTRAINTS: Entry = Entry {
         EVERY_N,
         SMALL_N,
         EXTREMES,
+        LARGEST,
         ALL_POSITIONS,
         ALL_MASK_BITS,
         keyed::sizes_out_of_range::<Constraints>(),
@@ -69,6 +72,12 @@ pub const CONSTRAINTS: Entry = Entry {
         keyed::two_faults::<Constraints>(),
         keyed::random_faults::<Constraints>(),
     ],
+    least: &[Least {
+        group: LARGEST.name,
+        n: &[rounds::LARGEST],
+        answer: DONE,
+        count: 40,
+    }],
 };
 
 /// The entry values.
@@ -91,6 +100,7 @@ pub const VALUES: Entry = Entry {
         ANY_NUMBERS,
         VALUES_SMALL_N,
         VALUES_EXTREMES,
+        VALUES_LARGEST,
         ALL_T,
         keyed::sizes_out_of_range::<Values>(),
         keyed::one_fault::<Values>(),
@@ -100,6 +110,12 @@ pub const VALUES: Entry = Entry {
         keyed::two_faults::<Values>(),
         keyed::random_faults::<Values>(),
     ],
+    least: &[Least {
+        group: VALUES_LARGEST.name,
+        n: &[rounds::LARGEST],
+        answer: DONE,
+        count: 40,
+    }],
 };
 
 /// Positions below n that are no order: one of them twice, or all the same.
@@ -192,6 +208,23 @@ const EXTREMES: Group = Group {
                 each(case);
             }
         }
+    },
+};
+
+/// A case of constraints with the slices of a round. Every fourth has an order
+/// that solves the key, the others have positions of the three kinds in turn.
+fn constraints_in(round: &Round, generator: &mut Generator) -> Case {
+    let mut sample = witnesses::of_round(round, generator);
+    if let Some(kind) = (round.number % 4).checked_sub(1) {
+        sample.positions = KINDS[kind](round.sizes, generator);
+    }
+    constraints_of(&sample, generator)
+}
+
+const LARGEST: Group = Group {
+    name: "n = 64, any m, words and positions of all kinds",
+    cases: |generator, each| {
+        rounds::largest().for_each(|round| each(constraints_in(&round, generator)));
     },
 };
 
@@ -394,6 +427,35 @@ const VALUES_EXTREMES: Group = Group {
                 each(case);
             }
         }
+    },
+};
+
+/// A case of values with the slices of a round; every other has honest numbers.
+fn values_in(round: &Round, generator: &mut Generator) -> Case {
+    let Round { sizes, kinds, .. } = *round;
+    let [h, x, t, q, delta, _] = kinds;
+    let delta = rounds::challenge(delta, generator);
+    let mut case = if round.number % 2 == 1 {
+        honest(sizes, &delta, generator)
+    } else {
+        let mut case = any_numbers(sizes, &delta, generator);
+        let t = rounds::bits(t, sizes.bit_bytes(), generator);
+        let q = rounds::WORDS[q](sizes.correlation_words(), generator);
+        set_bytes(&mut case, T, &t);
+        set_words(&mut case, Q, &q);
+        case
+    };
+    for (input, kind) in [(H, h), (X, x)] {
+        let words = rounds::WORDS[kind](case.inputs[input].len(), generator);
+        set_words(&mut case, input, &words);
+    }
+    case
+}
+
+const VALUES_LARGEST: Group = Group {
+    name: "n = 64, any m, words and challenges of all kinds",
+    cases: |generator, each| {
+        rounds::largest().for_each(|round| each(values_in(&round, generator)));
     },
 };
 

@@ -51,6 +51,7 @@ pub const BOTH_FACTS: Entry = Entry {
     reference: polynomials_at_delta,
     table: None,
     groups: &[ALL_POSITIONS, SOLVING, OTHERS],
+    least: &[],
 };
 
 /// The challenge, after the inputs of constraints.

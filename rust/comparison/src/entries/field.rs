@@ -77,6 +77,7 @@ const fn entry(
         reference,
         table: None,
         groups,
+        least: &[],
     }
 }
 

@@ -13,6 +13,7 @@ pub mod keyed;
 pub mod package_field;
 pub mod prove;
 pub mod readers;
+pub mod rounds;
 pub mod verify;
 pub mod witnesses;
 

@@ -84,6 +84,7 @@ pub const FIELD: Entry = Entry {
         files::other_kind::<PackageField>(),
         files::damaged::<PackageField>(),
     ],
+    least: &[],
 };
 
 /// The columns: the tags of a package, and all others.

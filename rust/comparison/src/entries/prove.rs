@@ -1,9 +1,10 @@
 //! The entry prove.
 
 use super::keyed::{self, set_bytes, set_words, Keyed, Slice, H, POSITIONS, U, V, X};
-use super::witnesses::{self, Witness};
+use super::rounds;
+use super::witnesses::{self, quotient, Witness};
 use super::{number, DONE, TOP};
-use crate::case::{Case, Entry, Group, Stated};
+use crate::case::{Case, Entry, Group, Least, Stated};
 use crate::perk;
 use reference::key::Sizes;
 use reference::large_field::COORDINATES;
@@ -69,6 +70,9 @@ pub const PROVE: Entry = Entry {
         ONE_ROW,
         SMALL_N,
         EXTREMES,
+        LARGEST,
+        ABOVE_A_POWER,
+        UNSOLVED,
         ALL_POSITIONS,
         keyed::sizes_out_of_range::<Prove>(),
         keyed::one_fault::<Prove>(),
@@ -84,6 +88,26 @@ pub const PROVE: Entry = Entry {
         Group {
             name: "empty slices, positions that do not solve the key",
             ..keyed::empty_slices::<Unsolved>()
+        },
+    ],
+    least: &[
+        Least {
+            group: LARGEST.name,
+            n: &[rounds::LARGEST],
+            answer: DONE,
+            count: 40,
+        },
+        Least {
+            group: ABOVE_A_POWER.name,
+            n: &rounds::ABOVE_A_POWER,
+            answer: DONE,
+            count: 12,
+        },
+        Least {
+            group: UNSOLVED.name,
+            n: &UNSOLVED_N,
+            answer: TOP,
+            count: 12,
         },
     ],
 };
@@ -185,14 +209,6 @@ const ONE_COLUMN: Group = Group {
     },
 };
 
-/// The word that times this one, which isn't 0, is a product.
-fn quotient(product: u16, divisor: u16) -> u16 {
-    let element = |word| F::from_word(word).expect("a word up to 2047");
-    (0..=F::LARGEST)
-        .find(|&word| element(word) * element(divisor) == element(product))
-        .expect("F has quotients")
-}
-
 const ONE_ROW: Group = Group {
     name: "each row of H alone with a top of one bit",
     cases: |generator, each| {
@@ -259,6 +275,65 @@ const EXTREMES: Group = Group {
                 sample.s = keyed::WORDS[masks](sample.s.len(), generator);
                 sample.alpha = keyed::WORDS[alpha](sample.alpha.len(), generator);
                 each(case((sample, None), generator));
+            }
+        }
+    },
+};
+
+const LARGEST: Group = Group {
+    name: "n = 64, any m, words of all kinds",
+    cases: |generator, each| {
+        for round in rounds::largest() {
+            let sample = witnesses::of_round(&round, generator);
+            each(case((sample, Some(DONE)), generator));
+        }
+    },
+};
+
+const ABOVE_A_POWER: Group = Group {
+    name: "n just above a power of two, words of all kinds",
+    cases: |generator, each| {
+        for round in rounds::above_a_power() {
+            let sample = witnesses::of_round(&round, generator);
+            each(case((sample, Some(DONE)), generator));
+        }
+    },
+};
+
+/// The sizes of the next group, without and with spare codes.
+const UNSOLVED_N: [usize; 2] = [rounds::LARGEST, rounds::ABOVE_A_POWER[0]];
+
+const UNSOLVED: Group = Group {
+    name: "n = 64 and 33, a position repeated or spare, or one row of H",
+    cases: |generator, each| {
+        for n in UNSOLVED_N {
+            for number in 0..12 {
+                let mut round = rounds::round(n, number);
+                let [h, _, u, v, masks, _] = round.kinds;
+                // Some H and some weights are all 0; x is random.
+                let h = if number % 8 < 2 { 2 } else { h };
+                let alpha = if number % 3 == 0 { 2 } else { number % 2 };
+                round.kinds = [h, 0, u, v, masks, alpha];
+                let mut sample = witnesses::of_round(&round, generator);
+                let entries = in_order(&sample.x, &sample.positions);
+                let spare_codes = (1 << sample.d) - n;
+                let from = generator.below(n);
+                let to = (from + 1 + generator.below(n - 1)) % n;
+                let row = [0, round.sizes.m - 1, generator.below(round.sizes.m)][number % 3];
+                match number % 4 {
+                    0 => sample.positions[to] = sample.positions[from],
+                    1 if spare_codes > 0 => {
+                        sample.positions[to] = (n + generator.below(spare_codes)) as u8;
+                    }
+                    1 => sample.positions[n - 1] = sample.positions[0],
+                    _ => {
+                        let place = entries.iter().position(|&entry| entry != 0);
+                        let i = place.expect("random words, one of them not 0");
+                        let bit = generator.below(11);
+                        sample.h[n * row + i] ^= quotient(1 << bit, entries[i]);
+                    }
+                }
+                each(case((sample, Some(TOP)), generator));
             }
         }
     },

@@ -108,6 +108,7 @@ const fn entry(
         reference,
         table: Some(table),
         groups,
+        least: &[],
     }
 }
 

@@ -1,8 +1,10 @@
 //! The entry verify.
 
 use super::keyed::{self, set_bytes, set_words, Keyed, Slice, DELTA, H, Q, T, X};
+use super::rounds::{self, Round};
+use super::witnesses;
 use super::{DONE, REJECTED};
-use crate::case::{Case, Entry, Group};
+use crate::case::{Case, Entry, Group, Least};
 use crate::lent::Lent;
 use crate::perk;
 use reference::key::{elements_of_k, Sizes};
@@ -61,6 +63,8 @@ pub const VERIFY: Entry = Entry {
         ANY_NUMBERS,
         SMALL_N,
         EXTREMES,
+        LARGEST,
+        ABOVE_A_POWER,
         ALL_T,
         keyed::sizes_out_of_range::<Verify>(),
         keyed::one_fault::<Verify>(),
@@ -69,6 +73,20 @@ pub const VERIFY: Entry = Entry {
         keyed::empty_slices::<Verify>(),
         keyed::two_faults::<Verify>(),
         keyed::random_faults::<Verify>(),
+    ],
+    least: &[
+        Least {
+            group: LARGEST.name,
+            n: &[rounds::LARGEST],
+            answer: DONE,
+            count: 40,
+        },
+        Least {
+            group: ABOVE_A_POWER.name,
+            n: &rounds::ABOVE_A_POWER,
+            answer: DONE,
+            count: 12,
+        },
     ],
 };
 
@@ -378,6 +396,64 @@ const EXTREMES: Group = Group {
                 }
             }
         }
+    },
+};
+
+/// An accepted case with the slices of a round: every third an honest proof,
+/// the others any numbers for which the equation holds.
+fn accepted(round: &Round, generator: &mut Generator) -> Case {
+    let Round { sizes, kinds, .. } = *round;
+    if round.number % 3 == 2 {
+        let mut sample = witnesses::of_round(round, generator);
+        sample.delta = rounds::challenge(round.number / 3 % 5, generator);
+        sample.make_honest();
+        return honest(&sample, generator);
+    }
+    let [h, x, t, q, delta, alpha] = kinds;
+    let mut case = keyed::of_sizes::<Verify>(sizes, generator);
+    for (input, kind) in [
+        (H, h),
+        (X, x),
+        (Q, q),
+        (MASKS, q),
+        (ALPHA, alpha),
+        (A, delta),
+    ] {
+        let words = rounds::WORDS[kind](case.inputs[input].len(), generator);
+        set_words(&mut case, input, &words);
+    }
+    let t = rounds::bits(t, sizes.bit_bytes(), generator);
+    let delta = rounds::challenge(delta, generator);
+    set_bytes(&mut case, T, &t);
+    set_words(&mut case, DELTA, &delta);
+    balanced(case)
+}
+
+/// An accepted case with the slices of a round, and in every fourth round the
+/// same with one bit changed, in each slice in turn.
+fn with_change(round: &Round, generator: &mut Generator, each: &mut dyn FnMut(Case)) {
+    let case = accepted(round, generator);
+    let input = round.number / 4 % case.inputs.len();
+    let len = case.inputs[input].len();
+    if round.number % 4 == 1 && len > 0 {
+        let index = generator.below(len);
+        let answer = answer_to_change(&case, input, index);
+        each(changed(&case, input, index, answer, generator));
+    }
+    each(case);
+}
+
+const LARGEST: Group = Group {
+    name: "n = 64, any m, words and challenges of all kinds",
+    cases: |generator, each| {
+        rounds::largest().for_each(|round| with_change(&round, generator, each));
+    },
+};
+
+const ABOVE_A_POWER: Group = Group {
+    name: "n just above a power of two, words and challenges of all kinds",
+    cases: |generator, each| {
+        rounds::above_a_power().for_each(|round| with_change(&round, generator, each));
     },
 };
 

@@ -1,7 +1,9 @@
 //! Keys with positions: those that solve the key, and others.
 
+use super::rounds::{self, Round};
 use super::{keyed, DONE, TOP};
 use reference::samples::{in_order, Generator, Sample};
+use reference::small_field::F;
 
 /// A sample, and what prove answers for its positions, where it is known
 /// without the reference.
@@ -70,6 +72,56 @@ pub fn all_positions(n: usize, m: usize, generator: &mut Generator) -> Vec<Witne
         positions.map(|list| (with(key, list), None)).collect()
     };
     keys.iter().flat_map(of_key).collect()
+}
+
+/// The element of F with this number.
+fn element(word: u16) -> F {
+    F::from_word(word).expect("a word up to 2047")
+}
+
+/// The word that times this one, which isn't 0, is a product.
+pub fn quotient(product: u16, divisor: u16) -> u16 {
+    (0..=F::LARGEST)
+        .find(|&word| element(word) * element(divisor) == element(product))
+        .expect("F has quotients")
+}
+
+/// Changes one word in each row of H so that the positions, which are an order,
+/// solve the key.
+fn solve(sample: &mut Sample) {
+    let entries = in_order(&sample.x, &sample.positions);
+    let Some(place) = entries.iter().rposition(|&entry| entry != 0) else {
+        return;
+    };
+    for row in sample.h.chunks_mut(sample.n) {
+        row[place] = 0;
+        let products = row.iter().zip(&entries);
+        let sum = products.fold(F::ZERO, |sum, (&h, &x)| sum + element(h) * element(x));
+        row[place] = quotient(sum.word(), entries[place]);
+    }
+}
+
+/// A key that the positions solve, with the slices of this round: H, x, u, v,
+/// the masks and the weights. One in four orders is 0 to n - 1.
+pub fn of_round(round: &Round, generator: &mut Generator) -> Sample {
+    let mut sample = Sample::solving(round.sizes.n, round.sizes.m, generator);
+    let [h, x, u, v, masks, alpha] = round.kinds;
+    for (words, kind) in [
+        (&mut sample.h, h),
+        (&mut sample.x, x),
+        (&mut sample.v, v),
+        (&mut sample.r, masks),
+        (&mut sample.s, masks),
+        (&mut sample.alpha, alpha),
+    ] {
+        *words = rounds::WORDS[kind](words.len(), generator);
+    }
+    sample.u = rounds::bits(u, sample.u.len(), generator);
+    if round.number % 4 == 3 {
+        sample.positions.sort_unstable();
+    }
+    solve(&mut sample);
+    sample
 }
 
 /// The sample with these positions.

@@ -3,11 +3,12 @@ use Prim.Native.Nat.{_+_, _-_, _*_, _≤_}
 use native.Mathlib.Nat.{mul-zero, mul-add}
 use native.Mathlib.Omega.{arith}
 use lib.ListN.{length}
+use Rattle.field.specs.Packed.{Tabulates}
 use Rattle.field.specs.Word.{odd}
 use Rattle.field.specs.Level.{levelAt, K}
 use Rattle.field.specs.declared.Level.{Level}
 use Rattle.rows.specs.Step.{Factored, Doubled}
-use Rattle.rows.specs.Elements.{el, Words, valueOf}
+use Rattle.rows.specs.Elements.{el, Words}
 use Rattle.rows.proofs.ProductLaws.{doubled-none, doubled-more}
 use Rattle.rows.proofs.ElementLaws.{fits-le}
 use Rattle.rows.proofs.NumberLaws.{row-le, row-next}
@@ -15,18 +16,15 @@ use Rattle.rows.proofs.products.double.Statement.{statement}
 use Rattle.rows.proofs.products.double.Tie as tie
 
 abbrev Inv-loop : tie.InvT-loop
-Inv-loop buf₀ n h s w v level half a₀ p₀ buf a p =
+Inv-loop buf₀ n h s w multiples level half a₀ p₀ buf a p =
     (p ≤ h) × (a ≡ n * p) × (length buf ≡ length buf₀) × Words (levelAt level) buf
-    × Doubled (K (levelAt level)) (el (levelAt level) buf₀) (el (levelAt level) buf) n h s (odd w) (valueOf (levelAt level) (v .words)) p
+    × ((y : K (levelAt level) .Carrier) → Tabulates (levelAt level) (multiples .words) y → Doubled (K (levelAt level)) (el (levelAt level) buf₀) (el (levelAt level) buf) n h s (odd w) y p)
 
 abbrev μ-loop : tie.MeasureT-loop
-μ-loop buf₀ n h s w v level half a₀ p₀ buf a p = h - p
+μ-loop buf₀ n h s w multiples level half a₀ p₀ buf a p = h - p
 
 abbrev L : tie.Start Inv-loop μ-loop → Level
 L s = levelAt (s .args .level)
-
-abbrev factor : (s : tie.Start Inv-loop μ-loop) → K (L s) .Carrier
-factor s = valueOf (L s) (s .args .v .words)
 
 mul-half : tie.Need-mul-half Inv-loop μ-loop
 mul-half c = omega arith
@@ -34,7 +32,7 @@ mul-half c = omega arith
 loop-holds : tie.Need-loop-holds Inv-loop μ-loop
 loop-holds c =
     let s = c .before in
-    (omega arith, sym (mul-zero (s .args .n)), refl, s .pre .0, doubled-none (K (L s)) (el (L s) (s .args .buf .now)) (s .args .n) (s .args .h) (s .args .s) (odd (s .args .w)) (factor s))
+    (omega arith, sym (mul-zero (s .args .n)), refl, s .pre .0, λ y t. doubled-none (K (L s)) (el (L s) (s .args .buf .now)) (s .args .n) (s .args .h) (s .args .s) (odd (s .args .w)) y)
 
 inside : (c : tie.In-loop Inv-loop μ-loop) → c .before .loop .a + c .before .before .before .args .n ≤ c .before .before .before .args .n * c .before .before .before .args .h
 inside c = omega (arith, c .before .loop .inv .1, row-le (c .before .before .before .args .n) (c .before .loop .p) (c .before .before .before .args .h) (c .loop-test .taken))
@@ -62,24 +60,25 @@ loop-again c =
     let s = c .before .before .before .before .before .before .before in
     let l = c .before .before .before .before .before .loop in
     let r = c .before .before .split in
+    let some = r .ensures (s .pre .1 .factor) (s .pre .1 .table) in
     let far : l .a + s .args .n * s .args .h ≡ s .args .n * (l .p + s .args .h) = ap (λ x. x + s .args .n * s .args .h) (l .inv .1) ∙ sym (mul-add (s .args .n) (l .p) (s .args .h)) in (
       omega (arith, c .before .before .before .before .loop-test .taken),
       omega (arith, l .inv .1, row-next (s .args .n) (l .p)),
-      r .ensures .same ∙ l .inv .2,
-      r .ensures .words,
-      doubled-more (K (L s)) (el (L s) (s .args .buf .now)) (el (L s) (l .buf)) (el (L s) (r .last .0)) (s .args .n) (s .args .h) (s .args .s) (odd (s .args .w)) (factor s) (l .p) (s .pre .3) (c .before .before .before .before .loop-test .taken) (l .inv .4)
-          (subst₂ (λ a b. Factored (K (L s)) (el (L s) (l .buf)) (el (L s) (r .last .0)) a b (s .args .s) (odd (s .args .w)) (factor s) (s .args .s + 1)) (l .inv .1) far (r .ensures .holds)),
+      some .same ∙ l .inv .2,
+      some .words,
+      λ y t. doubled-more (K (L s)) (el (L s) (s .args .buf .now)) (el (L s) (l .buf)) (el (L s) (r .last .0)) (s .args .n) (s .args .h) (s .args .s) (odd (s .args .w)) y (l .p) (s .pre .3) (c .before .before .before .before .loop-test .taken) (l .inv .4 y t)
+          (subst₂ (λ a b. Factored (K (L s)) (el (L s) (l .buf)) (el (L s) (r .last .0)) a b (s .args .s) (odd (s .args .w)) y (s .args .s + 1)) (l .inv .1) far (r .ensures y t .holds)),
     )
 
 same-length : tie.Need-same-length Inv-loop μ-loop
 same-length c = c .before .loop .inv .2
 
 returns : tie.Need-returns Inv-loop μ-loop
-returns c =
+returns c y t =
     let l = c .before .loop in
     let s = c .before .before .before in
     let done : l .p ≡ s .args .h = omega arith in
-    record { same = l .inv .2; words = l .inv .3; holds = subst (Doubled (K (L s)) (el (L s) (s .args .buf .now)) (el (L s) (l .buf)) (s .args .n) (s .args .h) (s .args .s) (odd (s .args .w)) (factor s)) done (l .inv .4) }
+    record { same = l .inv .2; words = l .inv .3; holds = subst (Doubled (K (L s)) (el (L s) (s .args .buf .now)) (el (L s) (l .buf)) (s .args .n) (s .args .h) (s .args .s) (odd (s .args .w)) y) done (l .inv .4 y t) }
 
 pub double-spec : {M : Type 1} → statement M
 double-spec =

@@ -4,13 +4,14 @@ use Prim.Native.Nat.{ℕ, _+_, _-_, _*_, _^_, _≤_, _<_}
 use native.Mathlib.Omega.{arith}
 use borrow.Author.Needs.{needs}
 use lib.ListN.{length}
+use Rattle.field.specs.Packed.{Tabulates}
 use Rattle.field.specs.Level.{levelAt, K}
 use Rattle.field.specs.declared.Level.{Level}
 use Rattle.rows.specs.Step.{Step, Put, Doubled}
 use Rattle.rows.specs.Polynomial.{digit, z}
-use Rattle.rows.specs.Elements.{el, Words, valueOf}
+use Rattle.rows.specs.Elements.{el, Words}
 use Rattle.rows.proofs.ProductLaws.{Products, products-none, products-more}
-use Rattle.rows.proofs.ElementLaws.{fits-le, holds-value, holds-held}
+use Rattle.rows.proofs.ElementLaws.{fits-le}
 use Rattle.rows.proofs.NumberLaws.{many, pow-double, pow-room, room, room-one, digit-place}
 use Rattle.rows.proofs.products.tree.Statement.{statement}
 use Rattle.rows.proofs.products.tree.Tie as tie
@@ -68,54 +69,61 @@ get-requires c κs =
     let s = c .before .before .before .before .before .before .before .before .before in
     (s .pre .1, fits-le (L s) (s .args .at + (s .args .d - 1 - c .before .loop .t) + 1) (s .args .at + s .args .d) (omega (arith, c .loop-test .taken)) refl (s .pre .4))
 
+of-requires : tie.Need-of-requires Inv-loop μ-loop
+of-requires c κs = search needs
+
 add-double : tie.Need-add-double Inv-loop μ-loop
-add-double c = omega (arith, c .before .before .before .before .before .before .before .before .before .before .before .pre .2)
+add-double c = omega (arith, c .before .before .before .before .before .before .before .before .before .before .before .before .pre .2)
 
 add-double-2 : tie.Need-add-double-2 Inv-loop μ-loop
-add-double-2 c = omega (arith, c .before .before .before .before .before .before .before .before .before .before .before .pre .2, c .before .before .loop-test .taken)
+add-double-2 c = omega (arith, c .before .before .before .before .before .before .before .before .before .before .before .before .pre .2, c .before .before .before .loop-test .taken)
+
+-- the table of the digit's offset
+tabled : (c : tie.After-of Inv-loop μ-loop) → Tabulates (L (c .before .before .before .before .before .before .before .before .before .before .before)) (c .of .result .words) (offsets (c .before .before .before .before .before .before .before .before .before .before .before) (c .before .before .before .before .before .before .before .before .before .before .before .args .d - 1 - c .before .before .before .loop .t))
+tabled c =
+    let s = c .before .before .before .before .before .before .before .before .before .before .before in
+    c .of .ensures (offsets s (s .args .d - 1 - c .before .before .before .loop .t)) (c .before .get .ensures)
 
 double-requires : tie.Need-double-requires Inv-loop μ-loop
 double-requires c κs =
-    let s = c .before .before .before .before .before .before .before .before .before .before .before in
-    let l = c .before .before .before .loop in
+    let s = c .before .before .before .before .before .before .before .before .before .before .before .before in
+    let l = c .before .before .before .before .loop in
     let n = s .args .d + 1 in
     let h : n * l .h ≡ n * 2 ^ l .t = ap (λ e. n * e) (l .inv .1) in (
       l .inv .3,
-      holds-held (L s) (c .before .get .result .words) (offsets s (s .args .d - 1 - l .t)) (c .before .get .ensures),
+      record { factor = offsets s (s .args .d - 1 - l .t); table = tabled (c .before) },
       omega arith,
-      omega (arith, c .before .before .loop-test .taken),
-      fits-le (L s) (n * l .h + n * l .h) (size s) (omega (arith, room n (s .args .d) (l .t) (c .before .before .loop-test .taken))) (l .inv .2 ∙ begun (c .before .before .before .before .before .before) .same) (s .pre .3),
+      omega (arith, c .before .before .before .loop-test .taken),
+      fits-le (L s) (n * l .h + n * l .h) (size s) (omega (arith, room n (s .args .d) (l .t) (c .before .before .before .loop-test .taken))) (l .inv .2 ∙ begun (c .before .before .before .before .before .before .before) .same) (s .pre .3),
     )
 
 add-h : tie.Need-add-h Inv-loop μ-loop
 add-h c =
-    let s = c .before .before .before .before .before .before .before .before .before .before .before .before .before .before in
-    let l = c .before .before .before .before .before .before .loop in
-    omega (arith, l .inv .1, pow-room (s .args .d) (l .t) (c .before .before .before .before .before .loop-test .taken), many (s .args .d) (2 ^ s .args .d), s .pre .3 .1, s .good)
+    let s = c .before .before .before .before .before .before .before .before .before .before .before .before .before .before .before in
+    let l = c .before .before .before .before .before .before .before .loop in
+    omega (arith, l .inv .1, pow-room (s .args .d) (l .t) (c .before .before .before .before .before .before .loop-test .taken), many (s .args .d) (2 ^ s .args .d), s .pre .3 .1, s .good)
 
 add-t : tie.Need-add-t Inv-loop μ-loop
-add-t c = omega (arith, c .before .before .before .before .before .loop-test .taken, c .before .before .before .before .before .before .before .before .before .before .before .before .before .before .pre .2)
+add-t c = omega (arith, c .before .before .before .before .before .before .loop-test .taken, c .before .before .before .before .before .before .before .before .before .before .before .before .before .before .before .pre .2)
 
 loop-less : tie.Need-loop-less Inv-loop μ-loop
-loop-less c = omega (arith, c .before .before .before .before .before .loop-test .taken)
+loop-less c = omega (arith, c .before .before .before .before .before .before .loop-test .taken)
 
 loop-again : tie.Need-loop-again Inv-loop μ-loop
 loop-again c =
-    let s = c .before .before .before .before .before .before .before .before .before .before .before .before .before .before in
-    let l = c .before .before .before .before .before .before .loop in
-    let r = c .before .before .double in
+    let s = c .before .before .before .before .before .before .before .before .before .before .before .before .before .before .before in
+    let l = c .before .before .before .before .before .before .before .loop in
+    let r = c .before .before .double .ensures (offsets s (s .args .d - 1 - l .t)) (tabled (c .before .before .before .before)) in
+    let buf = c .before .before .double .last .0 in
     let k = K (L s) in
-    let g = c .before .before .before .before .get in
     let n = s .args .d + 1 in
-    let i = s .args .d - 1 - l .t in
-    let inside : l .t < s .args .d = c .before .before .before .before .before .loop-test .taken in (
+    let inside : l .t < s .args .d = c .before .before .before .before .before .before .loop-test .taken in (
       omega arith,
       ap₂ _+_ (l .inv .1) (l .inv .1) ∙ pow-double (l .t),
-      r .ensures .same ∙ l .inv .2,
-      r .ensures .words,
-      products-more k (s .args .d) (digits s) (offsets s) n (el (L s) (l .buf)) (el (L s) (r .last .0)) (l .t) inside (l .inv .4)
-          (subst₂ (λ h v. Doubled k (el (L s) (l .buf)) (el (L s) (r .last .0)) n h (l .t + 1) (digits s i) v h) (l .inv .1) (holds-value (L s) (g .result .words) (offsets s i) (g .ensures))
-          (subst (λ b. Doubled k (el (L s) (l .buf)) (el (L s) (r .last .0)) n (l .h) (l .t + 1) b (valueOf (L s) (g .result .words)) (l .h)) (sym (digit-place (s .args .d) (s .args .position) (l .t) inside)) (r .ensures .holds))),
+      r .same ∙ l .inv .2,
+      r .words,
+      products-more k (s .args .d) (digits s) (offsets s) n (el (L s) (l .buf)) (el (L s) buf) (l .t) inside (l .inv .4)
+          (subst₂ (λ h b. Doubled k (el (L s) (l .buf)) (el (L s) buf) n h (l .t + 1) b (offsets s (s .args .d - 1 - l .t)) h) (l .inv .1) (sym (digit-place (s .args .d) (s .args .position) (l .t) inside)) (r .holds)),
     )
 
 same-length : tie.Need-same-length Inv-loop μ-loop
@@ -143,6 +151,7 @@ tree-spec =
     sub-get-2
     add-get
     get-requires
+    of-requires
     add-double
     add-double-2
     double-requires

@@ -1,0 +1,4 @@
+pub mod WeightLaws
+pub mod FoldLaws
+pub mod LeafLaws
+pub mod RowLaws

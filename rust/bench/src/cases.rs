@@ -1,0 +1,186 @@
+//! The rows: which entries are called with what.
+
+use crate::implementation::{Found, Material, OnBytes, OnElements, OnKey, ALL, FILED, KEYED};
+use crate::measure::{Calls, Row, Subject};
+use crate::products;
+use reference::samples::{Generator, Sample};
+use std::hint::black_box;
+
+/// The sizes n and m. The first four grow with n.
+pub const SIZES: [(usize, usize); 5] = [(8, 3), (16, 7), (32, 13), (64, 27), (64, 63)];
+
+/// The number of pairs of independent operands.
+const PAIRS: usize = 64;
+
+/// The entry and form of the row that gives the time of one product.
+pub const ONE_PRODUCT: (&str, &str) = ("product", "independent");
+
+/// What all rows are called with.
+pub struct Inputs {
+    /// The keys with their material.
+    materials: Vec<Material>,
+    /// A check file.
+    pub file: Vec<u8>,
+    /// Its package.
+    pub package: Vec<u8>,
+}
+
+impl Inputs {
+    /// Inputs with this check file, which is well formed.
+    pub fn of(file: Vec<u8>) -> Inputs {
+        let mut generator = Generator::new(3);
+        let materials = SIZES
+            .iter()
+            .map(|&(n, m)| Material::of(Sample::solving(n, m, &mut generator)))
+            .collect();
+        // A package is the first six fields, each a tag, two bytes of length and
+        // its content.
+        let length = (0..6).fold(0, |at, _| {
+            at + 3 + 256 * usize::from(file[at + 1]) + usize::from(file[at + 2])
+        });
+        Inputs {
+            materials,
+            package: file[..length].to_vec(),
+            file,
+        }
+    }
+}
+
+/// One call; the compiler knows neither the slices nor the use of the result.
+fn call(entry: OnElements, a: &[u16; 12], b: &[u16; 12], out: &mut [u16; 12]) {
+    let answer = entry(
+        black_box(&a[..]),
+        black_box(&b[..]),
+        black_box(&mut out[..]),
+    );
+    assert_eq!(answer, 0);
+}
+
+/// A random element.
+fn element(generator: &mut Generator) -> [u16; 12] {
+    std::array::from_fn(|_| generator.word())
+}
+
+/// Calls whose operands are the results of the two calls before.
+fn chain(entry: OnElements) -> Calls<'static> {
+    let mut generator = Generator::new(1);
+    let mut elements = [(); 3].map(|()| element(&mut generator));
+    Box::new(move |count| {
+        let [mut a, mut b, mut c] = elements.each_mut();
+        for _ in 0..count {
+            call(entry, a, b, c);
+            (a, b, c) = (b, c, a);
+        }
+    })
+}
+
+/// Calls whose operands are no results.
+fn independent(entry: OnElements) -> Calls<'static> {
+    let mut generator = Generator::new(2);
+    let a = [(); PAIRS].map(|()| element(&mut generator));
+    let b = [(); PAIRS].map(|()| element(&mut generator));
+    let mut out = [[0; 12]; PAIRS];
+    Box::new(move |count| {
+        for i in 0..count {
+            let i = i % PAIRS;
+            call(entry, &a[i], &b[i], &mut out[i]);
+        }
+    })
+}
+
+/// Calls with a key.
+fn with_key(entry: OnKey, material: &Material, words: usize) -> Calls<'_> {
+    let mut t = material.t.clone();
+    let mut out = vec![0; words];
+    Box::new(move |count| {
+        for _ in 0..count {
+            let answer = entry(
+                black_box(material),
+                black_box(&mut t[..]),
+                black_box(&mut out[..]),
+            );
+            assert_eq!(answer, 0);
+        }
+    })
+}
+
+/// Calls with bytes.
+fn with_bytes(entry: OnBytes, bytes: &[u8]) -> Calls<'_> {
+    let mut found = Found::default();
+    Box::new(move |count| {
+        for _ in 0..count {
+            black_box(entry(black_box(bytes), black_box(&mut found)));
+        }
+    })
+}
+
+/// The rows on elements.
+fn on_elements(rows: &mut Vec<Row>) {
+    let mut push = |entry, form, products, calls| {
+        rows.push(Row {
+            subject: Subject {
+                entry,
+                sizes: None,
+                form,
+                products,
+            },
+            calls,
+        });
+    };
+    let all = ALL.iter();
+    let sums = all.clone().map(|one| Some(independent(one.sum)));
+    push("sum", "independent", None, sums.collect());
+    let chains = all.clone().map(|one| Some(chain(one.product)));
+    push("product", "chain", Some(1), chains.collect());
+    let products = all.map(|one| Some(independent(one.product)));
+    push(ONE_PRODUCT.0, ONE_PRODUCT.1, Some(1), products.collect());
+}
+
+/// The rows, always in the same order.
+pub fn rows(inputs: &Inputs) -> Vec<Row<'_>> {
+    let mut rows = Vec::new();
+    on_elements(&mut rows);
+    let products = [
+        products::constraints,
+        products::values,
+        products::prove,
+        products::verify,
+    ];
+    for (entry, name) in KEYED.into_iter().enumerate() {
+        for material in &inputs.materials {
+            let Sample { n, m, d, .. } = material.sample;
+            let words = material.words()[entry];
+            let calls = ALL
+                .iter()
+                .map(|one| Some(with_key(one.keyed[entry], material, words)));
+            rows.push(Row {
+                subject: Subject {
+                    entry: name,
+                    sizes: Some((n, m)),
+                    form: "",
+                    products: Some(products[entry](n, d)),
+                },
+                calls: calls.collect(),
+            });
+        }
+    }
+    for (entry, name) in FILED.into_iter().enumerate() {
+        let (bytes, form) = match name {
+            "read_package" | "field" => (&inputs.package, "largest package"),
+            _ => (&inputs.file, "largest file"),
+        };
+        let calls = ALL
+            .iter()
+            .map(|one| one.filed.map(|filed| with_bytes(filed[entry], bytes)));
+        rows.push(Row {
+            subject: Subject {
+                entry: name,
+                sizes: None,
+                form,
+                products: None,
+            },
+            calls: calls.collect(),
+        });
+    }
+    rows
+}

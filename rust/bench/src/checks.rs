@@ -1,0 +1,87 @@
+//! The refusals of the entries, with their numbers in C.
+
+use crate::packed::COORDINATES;
+use crate::rows::Key;
+use reference::key::{judge_lengths, Sizes};
+use reference::Refusal;
+
+/// The largest element of F, which has all its digits set.
+const LIMIT: u16 = 2047;
+
+/// Goes on, or stops with the refusal.
+fn unless(refused: bool, refusal: Refusal) -> Result<(), Refusal> {
+    if refused {
+        Err(refusal)
+    } else {
+        Ok(())
+    }
+}
+
+/// Whether some word is above the limit. The words are joined first.
+#[inline]
+fn above(words: &[u16]) -> bool {
+    words.iter().fold(0, |all, word| all | word) > LIMIT
+}
+
+/// Whether some byte has more digits.
+fn longer(bytes: &[u8], digits: usize) -> bool {
+    bytes.iter().fold(0, |all, byte| all | byte) >> digits != 0
+}
+
+/// The words of an element.
+type Words = [u16; COORDINATES];
+
+/// The refusals 3 and 6 of two elements of K and the room for a third; the
+/// words of known length where none applies.
+#[inline]
+pub fn elements<'a>(
+    a: &'a [u16],
+    b: &'a [u16],
+    out: &'a mut [u16],
+) -> Result<(&'a Words, &'a Words, &'a mut Words), Refusal> {
+    let words = (a.try_into(), b.try_into(), out.try_into());
+    let (Ok::<&Words, _>(a), Ok::<&Words, _>(b), Ok(out)) = words else {
+        return Err(Refusal::SliceLength);
+    };
+    unless(above(a) || above(b), Refusal::Coordinate)?;
+    Ok((a, b, out))
+}
+
+/// The slices that an entry with a key takes beside H and x.
+pub struct Slices<'a, const N: usize> {
+    /// The stated lengths.
+    pub lengths: fn(Sizes) -> [usize; N],
+    /// The lent lengths.
+    pub lent: [usize; N],
+    /// The bits.
+    pub bits: &'a [u8],
+    /// The slices of elements of K.
+    pub elements: &'a [&'a [u16]],
+    /// The positions, where the entry takes some.
+    pub positions: &'a [u8],
+}
+
+/// The refusals 1 to 7, and the key where none applies.
+pub fn keyed<'a, const N: usize>(
+    n: usize,
+    m: usize,
+    h: &'a [u16],
+    x: &'a [u16],
+    slices: Slices<N>,
+) -> Result<Key<'a>, Refusal> {
+    let sizes = Sizes::judged(n, m)?;
+    judge_lengths(&[(h.len(), sizes.h_words()), (x.len(), sizes.x_words())])?;
+    unless((slices.lengths)(sizes) != slices.lent, Refusal::SliceLength)?;
+    unless(above(h) || above(x), Refusal::KeyElement)?;
+    unless(longer(slices.bits, 1), Refusal::Bit)?;
+    let mut elements = slices.elements.iter();
+    unless(elements.any(|words| above(words)), Refusal::Coordinate)?;
+    unless(longer(slices.positions, sizes.d), Refusal::Position)?;
+    Ok(Key {
+        n,
+        m,
+        d: sizes.d,
+        h,
+        x,
+    })
+}

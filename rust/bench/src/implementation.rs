@@ -1,0 +1,182 @@
+//! The implementations that are compared, each by the functions of its entries.
+
+use crate::{of_reference, rust};
+use comparison::perk;
+use reference::samples::Sample;
+
+/// Sum or product of two elements of K.
+pub type OnElements = fn(&[u16], &[u16], &mut [u16]) -> u32;
+
+/// What the entries with a key read.
+#[derive(Clone)]
+pub struct Material {
+    /// The key and the material.
+    pub sample: Sample,
+    /// The masked witness, which values and verify read.
+    pub t: Vec<u8>,
+    /// The proof, which verify reads.
+    pub a: Vec<u16>,
+}
+
+/// An entry with a key, with the room for t and for what else it writes.
+pub type OnKey = fn(&Material, &mut [u8], &mut [u16]) -> u32;
+
+/// What the entries on bytes write.
+#[derive(Clone, Debug, Default, PartialEq)]
+pub struct Found {
+    /// The size n.
+    pub n: u32,
+    /// The size m.
+    pub m: u32,
+    /// The serial.
+    pub serial: u32,
+    /// The place of a field.
+    pub start: usize,
+}
+
+/// An entry on the bytes of a file.
+pub type OnBytes = fn(&[u8], &mut Found) -> usize;
+
+/// The tag of the field that is asked for: a, the last of a package.
+const TAG: u8 = 7;
+
+/// The names of the entries with a key.
+pub const KEYED: [&str; 4] = ["constraints", "values", "prove", "verify"];
+
+/// The names of the entries on bytes.
+pub const FILED: [&str; 4] = ["read_package", "read_check_file", "field", "check"];
+
+/// An implementation.
+pub struct Implementation {
+    /// Its name.
+    pub name: &'static str,
+    /// The entry sum.
+    pub sum: OnElements,
+    /// The entry product.
+    pub product: OnElements,
+    /// The entries with a key.
+    pub keyed: [OnKey; 4],
+    /// The entries on bytes, where it has them.
+    pub filed: Option<[OnBytes; 4]>,
+    /// Whether its instructions are counted.
+    pub counted: bool,
+}
+
+/// The entries with a key of a module.
+macro_rules! keyed {
+    ($module:path) => {{
+        use $module as module;
+        [
+            |Material { sample: k, .. }, t, out| {
+                module::constraints(k.n, k.m, &k.h, &k.x, &k.positions, &k.u, &k.v, t, out)
+            },
+            |Material { sample: k, t, .. }, _, out| {
+                module::values(k.n, k.m, &k.h, &k.x, t, &k.q, &k.delta, out)
+            },
+            |Material { sample: k, .. }, t, out| {
+                module::prove(
+                    k.n,
+                    k.m,
+                    &k.h,
+                    &k.x,
+                    &k.positions,
+                    &k.u,
+                    &k.v,
+                    &k.r,
+                    &k.s,
+                    &k.alpha,
+                    t,
+                    out,
+                )
+            },
+            |Material { sample: k, t, a }, _, _| {
+                module::verify(
+                    k.n, k.m, &k.h, &k.x, t, &k.q, &k.delta, &k.masks, &k.alpha, a,
+                )
+            },
+        ]
+    }};
+}
+
+/// The entries on bytes of a module.
+macro_rules! filed {
+    ($module:path) => {{
+        use $module as module;
+        Some([
+            |bytes, found| {
+                module::read_package(bytes, &mut found.n, &mut found.m, &mut found.serial) as usize
+            },
+            |bytes, found| {
+                module::read_check_file(bytes, &mut found.n, &mut found.m, &mut found.serial)
+                    as usize
+            },
+            |bytes, found| module::field(bytes, TAG, &mut found.start),
+            |bytes, _| module::check(bytes) as usize,
+        ])
+    }};
+}
+
+/// The implementations, in the order of the columns.
+pub const ALL: &[Implementation] = &[
+    Implementation {
+        name: "library",
+        sum: perk::sum,
+        product: perk::product,
+        keyed: keyed!(perk),
+        filed: filed!(perk),
+        counted: true,
+    },
+    Implementation {
+        name: "Rust",
+        sum: rust::sum,
+        product: rust::product,
+        keyed: keyed!(rust),
+        filed: None,
+        counted: true,
+    },
+    Implementation {
+        name: "reference",
+        sum: of_reference::sum,
+        product: of_reference::product,
+        keyed: keyed!(of_reference),
+        filed: filed!(of_reference),
+        counted: false,
+    },
+    #[cfg(feature = "other")]
+    Implementation {
+        name: "other",
+        sum: perk::other::sum,
+        product: perk::other::product,
+        keyed: keyed!(perk::other),
+        filed: filed!(perk::other),
+        counted: true,
+    },
+];
+
+/// The place of the library in the order.
+pub const LIBRARY: usize = 0;
+/// The place of the same algorithms in Rust.
+pub const RUST: usize = 1;
+/// The place of the reference.
+pub const REFERENCE: usize = 2;
+/// The place of the other build of the library, where there is one.
+pub const OTHER: usize = 3;
+
+impl Material {
+    /// Material of a sample, with t and a of its proof.
+    pub fn of(sample: Sample) -> Material {
+        let (t, a) = (vec![0; sample.n * sample.d], vec![0; 12 * sample.d]);
+        let mut material = Material { sample, t, a };
+        let (mut t, mut a) = (material.t.clone(), material.a.clone());
+        let answer = ALL[RUST].keyed[2](&material, &mut t, &mut a);
+        assert_eq!(answer, 0, "the sample is solved");
+        (material.t, material.a) = (t, a);
+        material
+    }
+
+    /// The words that each entry with a key writes beside t.
+    pub fn words(&self) -> [usize; 4] {
+        let Sample { n, m, d, .. } = self.sample;
+        [(d + 1) * (n + m), n + m, d, 0].map(|elements| 12 * elements)
+    }
+}

@@ -1,0 +1,70 @@
+//! The entries of the reference as functions like those of `comparison::perk`.
+
+use reference::{Contents, Refusal, Verdict};
+
+/// The number of an answer.
+fn number(answer: Result<(), Refusal>) -> u32 {
+    answer.map_or_else(Refusal::number, |()| 0)
+}
+
+/// The number of a verdict.
+fn of_verdict(answer: Result<Verdict, Refusal>) -> u32 {
+    match answer {
+        Ok(Verdict::Accepted) => 0,
+        Ok(Verdict::Rejected) => 255,
+        Err(refusal) => refusal.number(),
+    }
+}
+
+/// Declares functions whose last parameters are written.
+macro_rules! entries {
+    ($($name:ident ($($number:ident),*) ($($input:ident: $read:ty),*) ($($output:ident: $written:ty),*) $answer:ident;)*) => {$(
+        #[allow(clippy::too_many_arguments)]
+        pub fn $name(
+            $($number: usize,)*
+            $($input: &[$read],)*
+            $($output: &mut [$written],)*
+        ) -> u32 {
+            $answer(reference::$name($($number,)* $($input,)* $($output),*))
+        }
+    )*};
+}
+
+entries! {
+    sum () (a: u16, b: u16) (out: u16) number;
+    product () (a: u16, b: u16) (out: u16) number;
+    constraints (n, m) (h: u16, x: u16, positions: u8, u: u8, v: u16) (t: u8, polynomials: u16) number;
+    values (n, m) (h: u16, x: u16, t: u8, q: u16, delta: u16) (values: u16) number;
+    prove (n, m) (h: u16, x: u16, positions: u8, u: u8, v: u16, r: u16, s: u16, alpha: u16) (t: u8, a: u16) number;
+    verify (n, m) (h: u16, x: u16, t: u8, q: u16, delta: u16, masks: u16, alpha: u16, a: u16) () of_verdict;
+}
+
+/// Writes what a reader answers.
+fn written(answer: Result<Contents, Refusal>, n: &mut u32, m: &mut u32, serial: &mut u32) -> u32 {
+    number(answer.map(|contents| {
+        (*n, *m) = (contents.n as u32, contents.m as u32);
+        *serial = contents.serial;
+    }))
+}
+
+/// The entry read package.
+pub fn read_package(bytes: &[u8], n: &mut u32, m: &mut u32, serial: &mut u32) -> u32 {
+    written(reference::read_package(bytes), n, m, serial)
+}
+
+/// The entry read check file.
+pub fn read_check_file(bytes: &[u8], n: &mut u32, m: &mut u32, serial: &mut u32) -> u32 {
+    written(reference::read_check_file(bytes), n, m, serial)
+}
+
+/// The entry field.
+pub fn field(bytes: &[u8], tag: u8, start: &mut usize) -> usize {
+    let range = reference::field_range(bytes, tag);
+    *start = range.start;
+    range.len()
+}
+
+/// The entry check.
+pub fn check(bytes: &[u8]) -> u32 {
+    of_verdict(reference::check(bytes).map(|(_, verdict)| verdict))
+}

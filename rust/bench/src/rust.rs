@@ -1,0 +1,215 @@
+//! The entries in Rust, by the algorithms of the library: the functions on
+//! slices of `comparison::perk` that take elements and keys.
+
+use crate::checks::{elements, keyed, Slices};
+use crate::fold;
+use crate::packed::{load, plus, store, Element, Multiples, ZERO};
+use crate::rows::{COEFFICIENTS, POLYNOMIALS};
+use reference::Refusal;
+
+/// The number of an answer.
+fn number(answer: Result<(), Refusal>) -> u32 {
+    answer.map_or_else(Refusal::number, |()| 0)
+}
+
+/// The entry sum.
+pub fn sum(a: &[u16], b: &[u16], out: &mut [u16]) -> u32 {
+    number(elements(a, b, out).map(|(a, b, out)| {
+        store(&[plus(load(a, 0), load(b, 0))], out);
+    }))
+}
+
+/// The entry product.
+pub fn product(a: &[u16], b: &[u16], out: &mut [u16]) -> u32 {
+    number(elements(a, b, out).map(|(a, b, out)| {
+        store(&[Multiples::of(load(b, 0)).times(&load(a, 0))], out);
+    }))
+}
+
+/// The entry constraints.
+#[allow(clippy::too_many_arguments)]
+pub fn constraints(
+    n: usize,
+    m: usize,
+    h: &[u16],
+    x: &[u16],
+    positions: &[u8],
+    u: &[u8],
+    v: &[u16],
+    t: &mut [u8],
+    polynomials: &mut [u16],
+) -> u32 {
+    let slices = Slices {
+        lengths: |sizes| {
+            [
+                sizes.position_bytes(),
+                sizes.bit_bytes(),
+                sizes.correlation_words(),
+                sizes.bit_bytes(),
+                sizes.polynomial_words(),
+            ]
+        },
+        lent: [
+            positions.len(),
+            u.len(),
+            v.len(),
+            t.len(),
+            polynomials.len(),
+        ],
+        bits: u,
+        elements: &[v],
+        positions,
+    };
+    number(keyed(n, m, h, x, slices).map(|key| {
+        let mut sums = [ZERO; COEFFICIENTS * POLYNOMIALS];
+        key.polynomials(positions, v, &mut sums);
+        key.masked_witness(positions, u, t);
+        store(&sums, polynomials);
+    }))
+}
+
+/// The entry values.
+#[allow(clippy::too_many_arguments)]
+pub fn values(
+    n: usize,
+    m: usize,
+    h: &[u16],
+    x: &[u16],
+    t: &[u8],
+    q: &[u16],
+    delta: &[u16],
+    values: &mut [u16],
+) -> u32 {
+    let slices = Slices {
+        lengths: |sizes| {
+            [
+                sizes.bit_bytes(),
+                sizes.correlation_words(),
+                sizes.delta_words(),
+                sizes.weight_words(),
+            ]
+        },
+        lent: [t.len(), q.len(), delta.len(), values.len()],
+        bits: t,
+        elements: &[q, delta],
+        positions: &[],
+    };
+    number(keyed(n, m, h, x, slices).map(|key| {
+        let mut sums = [ZERO; POLYNOMIALS];
+        key.values(t, q, load(delta, 0), &mut sums);
+        store(&sums, values);
+    }))
+}
+
+/// The entry prove.
+#[allow(clippy::too_many_arguments)]
+pub fn prove(
+    n: usize,
+    m: usize,
+    h: &[u16],
+    x: &[u16],
+    positions: &[u8],
+    u: &[u8],
+    v: &[u16],
+    r: &[u16],
+    s: &[u16],
+    alpha: &[u16],
+    t: &mut [u8],
+    a: &mut [u16],
+) -> u32 {
+    let slices = Slices {
+        lengths: |sizes| {
+            [
+                sizes.position_bytes(),
+                sizes.bit_bytes(),
+                sizes.correlation_words(),
+                sizes.mask_words(),
+                sizes.mask_words(),
+                sizes.weight_words(),
+                sizes.bit_bytes(),
+                sizes.proof_words(),
+            ]
+        },
+        lent: [
+            positions.len(),
+            u.len(),
+            v.len(),
+            r.len(),
+            s.len(),
+            alpha.len(),
+            t.len(),
+            a.len(),
+        ],
+        bits: u,
+        elements: &[v, r, s, alpha],
+        positions,
+    };
+    number(keyed(n, m, h, x, slices).and_then(|key| {
+        let mut tops = [ZERO; POLYNOMIALS];
+        key.tops(positions, &mut tops);
+        let any = |all: u64, top: &Element| all | top[0] | top[1] | top[2];
+        if tops.iter().fold(0, any) != 0 {
+            return Err(Refusal::TopCoefficient);
+        }
+        key.masked_witness(positions, u, t);
+        let mut sums = [ZERO; COEFFICIENTS];
+        fold::polynomials(key, positions, v, alpha, &mut sums[..key.d]);
+        for k in 0..key.d - 1 {
+            sums[k] = plus(sums[k], load(r, k));
+            sums[k + 1] = plus(sums[k + 1], load(s, k));
+        }
+        store(&sums, a);
+        Ok(())
+    }))
+}
+
+/// The entry verify.
+#[allow(clippy::too_many_arguments)]
+pub fn verify(
+    n: usize,
+    m: usize,
+    h: &[u16],
+    x: &[u16],
+    t: &[u8],
+    q: &[u16],
+    delta: &[u16],
+    masks: &[u16],
+    alpha: &[u16],
+    a: &[u16],
+) -> u32 {
+    let slices = Slices {
+        lengths: |sizes| {
+            [
+                sizes.bit_bytes(),
+                sizes.correlation_words(),
+                sizes.delta_words(),
+                sizes.mask_words(),
+                sizes.weight_words(),
+                sizes.proof_words(),
+            ]
+        },
+        lent: [
+            t.len(),
+            q.len(),
+            delta.len(),
+            masks.len(),
+            alpha.len(),
+            a.len(),
+        ],
+        bits: t,
+        elements: &[q, delta, masks, alpha, a],
+        positions: &[],
+    };
+    let key = match keyed(n, m, h, x, slices) {
+        Ok(key) => key,
+        Err(refusal) => return refusal.number(),
+    };
+    let delta = Multiples::of(load(delta, 0));
+    let sum = fold::values(key, t, q, &delta, alpha);
+    let expected = plus(sum, fold::evaluated(masks, key.d - 1, &delta));
+    if fold::evaluated(a, key.d, &delta) == expected {
+        0
+    } else {
+        255
+    }
+}

@@ -1,0 +1,202 @@
+//! The tables, as Markdown with columns of even width.
+
+use crate::cases::{ONE_PRODUCT, SIZES};
+use crate::implementation::{ALL, KEYED, LIBRARY, OTHER, REFERENCE, RUST};
+use crate::measure::{Measured, REPETITION, REPETITIONS};
+
+/// The ratio of times up to which one build is not called slower than another.
+const NOISE: f64 = 1.05;
+
+/// A table: a heading, then rows of as many cells. The first two columns are
+/// text, the others numbers.
+fn print(heading: Vec<String>, rows: Vec<Vec<String>>) {
+    let width = |column: usize| {
+        let cells = rows.iter().map(|row| row[column].chars().count());
+        cells.chain([heading[column].chars().count()]).max()
+    };
+    let widths: Vec<usize> = (0..heading.len()).filter_map(width).collect();
+    let line = |cells: &[String]| {
+        print!("|");
+        for (column, (cell, &width)) in cells.iter().zip(&widths).enumerate() {
+            if column < 2 {
+                print!(" {cell:<width$} |");
+            } else {
+                print!(" {cell:>width$} |");
+            }
+        }
+        println!();
+    };
+    line(&heading);
+    print!("|");
+    for (column, &width) in widths.iter().enumerate() {
+        let end = if column < 2 { ' ' } else { ':' };
+        print!(" {}{end}|", "-".repeat(width));
+    }
+    println!();
+    rows.iter().for_each(|row| line(row));
+}
+
+/// A number, or a dash.
+fn shown<T>(number: Option<T>, show: impl Fn(T) -> String) -> String {
+    number.map_or("-".to_string(), show)
+}
+
+/// A number with about three digits.
+fn short(number: f64) -> String {
+    let decimals = match number {
+        number if number >= 100.0 => 0,
+        number if number >= 10.0 => 1,
+        number if number >= 1.0 => 2,
+        _ => 3,
+    };
+    format!("{number:.decimals$}")
+}
+
+/// Nanoseconds as microseconds.
+fn microseconds(time: Option<f64>) -> String {
+    shown(time, |time| short(time / 1e3))
+}
+
+/// a / b, where both are there.
+fn ratio(a: Option<f64>, b: Option<f64>) -> Option<f64> {
+    Some(a? / b?)
+}
+
+/// The sizes or the form of a row.
+fn called_with(row: &Measured) -> String {
+    let sizes = row.subject.sizes;
+    sizes.map_or(row.subject.form.to_string(), |(n, m)| format!("({n},{m})"))
+}
+
+/// The library's time of one product.
+fn one_product(rows: &[Measured]) -> Option<f64> {
+    let row = rows
+        .iter()
+        .find(|row| (row.subject.entry, row.subject.form) == ONE_PRODUCT);
+    row.and_then(|row| row.times[LIBRARY])
+}
+
+/// The table of all rows.
+pub fn entries(rows: &[Measured]) {
+    println!("## Entries\n");
+    println!(
+        "Microseconds for one call: the least of up to {REPETITIONS} repetitions of at least {} µs, all entries and implementations in turns,",
+        REPETITION.as_micros()
+    );
+    println!("in one run and on the same inputs. Output buffers are not cleared between calls. `products` is the number of products in K that the");
+    println!("library's algorithm needs, and `library/products` the library's time in units of that many independent calls of `product`.");
+    println!("`instructions` are those of one call, counted by callgrind; they repeat from run to run.\n");
+
+    let other = ALL.len() > OTHER;
+    let mut heading: Vec<String> = vec!["entry".into(), "called with".into()];
+    heading.extend(ALL.iter().map(|one| format!("{} µs", one.name)));
+    let mut ratios = vec![(LIBRARY, RUST), (LIBRARY, REFERENCE)];
+    let mut counts = vec![(LIBRARY, RUST)];
+    if other {
+        ratios.push((OTHER, LIBRARY));
+        counts.push((OTHER, LIBRARY));
+    }
+    let name = |(a, b): (usize, usize)| format!("{}/{}", ALL[a].name, ALL[b].name);
+    heading.extend(ratios.iter().map(|&pair| name(pair)));
+    heading.push("products".into());
+    heading.push("library/products".into());
+    heading.push("instructions".into());
+    heading.extend(counts.iter().map(|&pair| format!("{} instr.", name(pair))));
+
+    let one = one_product(rows);
+    let cells = |row: &Measured| {
+        let mut cells = vec![format!("`{}`", row.subject.entry), called_with(row)];
+        cells.extend(row.times.iter().map(|&time| microseconds(time)));
+        for &(a, b) in &ratios {
+            cells.push(shown(ratio(row.times[a], row.times[b]), |ratio| {
+                format!("{ratio:.3}")
+            }));
+        }
+        let products = row.subject.products;
+        cells.push(shown(products, |products| products.to_string()));
+        let units = products.and_then(|products| Some(one? * products as f64));
+        cells.push(shown(ratio(row.times[LIBRARY], units), |ratio| {
+            format!("{ratio:.3}")
+        }));
+        cells.push(shown(row.instructions[LIBRARY], |count| count.to_string()));
+        let count = |one: usize| row.instructions[one].map(|count| count as f64);
+        for &(a, b) in &counts {
+            cells.push(shown(ratio(count(a), count(b)), |ratio| {
+                format!("{ratio:.3}")
+            }));
+        }
+        cells
+    };
+    print(heading, rows.iter().map(cells).collect());
+    println!();
+    if other {
+        slower(rows);
+    }
+}
+
+/// Tells the rows in which the library is slower than the other build.
+fn slower(rows: &[Measured]) {
+    let list = |chosen: &dyn Fn(&Measured) -> Option<bool>| {
+        let rows = rows.iter().filter(|row| chosen(row) == Some(true));
+        let names: Vec<String> = rows
+            .map(|row| format!("`{}` {}", row.subject.entry, called_with(row)))
+            .collect();
+        if names.is_empty() {
+            "none".to_string()
+        } else {
+            names.join(", ")
+        }
+    };
+    let instructions = list(&|row| Some(row.instructions[LIBRARY]? > row.instructions[OTHER]?));
+    let times = list(&|row| Some(row.times[LIBRARY]? > NOISE * row.times[OTHER]?));
+    println!(
+        "Rows in which the library takes more instructions than the other build: {instructions}."
+    );
+    println!("Rows in which it takes more than {NOISE} of its time: {times}.\n");
+}
+
+/// The rows of an entry that grow with n.
+pub fn growing<'a>(rows: &'a [Measured], entry: &'a str) -> impl Iterator<Item = &'a Measured> {
+    SIZES[..4].iter().filter_map(move |&sizes| {
+        rows.iter()
+            .find(|row| row.subject.entry == entry && row.subject.sizes == Some(sizes))
+    })
+}
+
+/// The table of growth with n.
+pub fn growth(rows: &[Measured]) {
+    println!("## Growth with n\n");
+    println!("Of the library, with m near 0.42 n: times and products, each also as a multiple of that of n = 8.\n");
+    let heading = [
+        "entry",
+        "(n,m)",
+        "µs",
+        "µs/µs of n = 8",
+        "products",
+        "products/products of n = 8",
+        "ns per product",
+        "ns per product, Rust",
+    ];
+    let mut cells = Vec::new();
+    for entry in KEYED {
+        let Some(first) = growing(rows, entry).next() else {
+            continue;
+        };
+        for row in growing(rows, entry) {
+            let products = |row: &Measured| row.subject.products.map(|count| count as f64);
+            let times = |one: usize| ratio(row.times[one], products(row));
+            cells.push(vec![
+                format!("`{entry}`"),
+                called_with(row),
+                microseconds(row.times[LIBRARY]),
+                shown(ratio(row.times[LIBRARY], first.times[LIBRARY]), short),
+                shown(row.subject.products, |count| count.to_string()),
+                shown(ratio(products(row), products(first)), short),
+                shown(times(LIBRARY), short),
+                shown(times(RUST), short),
+            ]);
+        }
+    }
+    print(heading.map(String::from).to_vec(), cells);
+    println!();
+}

@@ -90,7 +90,7 @@ fn product(name: &[u8], a: &[u16], b: &[u16]) {
     let mut out = [0u16; 12];
     text(name);
     text(b":");
-    if done(field::product(a, b, &mut out)) {
+    if done(arithmetic::product(a, b, &mut out)) {
         elements(&out, 1);
     }
     text(b"\n");

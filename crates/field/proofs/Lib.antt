@@ -6,7 +6,6 @@ pub mod Limit
 pub mod Elements
 pub mod PartLaws
 pub mod Equal
-pub mod Lent
 pub mod Fields
 pub mod Tested
 pub mod Bits

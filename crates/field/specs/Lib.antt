@@ -9,4 +9,3 @@ pub mod Extension
 pub mod Level
 pub mod Word
 pub mod Packed
-pub mod Entry

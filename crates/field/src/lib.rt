@@ -1,9 +1,7 @@
-// The fields F and K of document 01, and the entries sum and product.
+// The fields F and K of document 01.
 ghost use mathlib.Core.Path.{_≡_};
 ghost use Prim.Native.Nat.{ℕ, _+_, _≤_, _<_};
 ghost use lib.Dec.{eqb};
-ghost use Rattle.refusal.specs.Answer.{firstOf};
-ghost use Rattle.field.specs.Entry.{rows, sumOutcome, productOutcome};
 ghost use lib.ListN.{length};
 ghost use Rattle.lists.specs.Words.{part, put};
 ghost use Rattle.field.specs.Ring.{Ring, Hom};
@@ -11,8 +9,6 @@ ghost use Rattle.field.specs.Binary.{bit};
 ghost use Rattle.field.specs.Level.{levelAt, F, K, embed, Y};
 ghost use Rattle.field.specs.Word.{odd, small, words, within, isZero};
 ghost use Rattle.field.specs.Packed.{Holds, Tabulates};
-use refusal::Answer;
-use refusal::Refusal;
 
 pub mod combination;
 mod packed;
@@ -198,62 +194,4 @@ pub fn excess(s: &[u16], level: usize) -> u16
         i += 1;
     }
     any >> 11
-}
-
-// The first refusal of sum and product that applies, or Done.
-fn refused(a: &[u16], b: &[u16], out: &[u16]) -> Answer
-    ensures { λ r. ⌜ r ≡ firstOf (rows (now (a .entry)) (now (b .entry)) (now (out .entry))) ⌝ }
-{
-    let level = Level::of(1);
-    let n = level.coordinates;
-    if a.len() != n {
-        return Answer::Refused(Refusal::LENGTH);
-    }
-    if b.len() != n {
-        return Answer::Refused(Refusal::LENGTH);
-    }
-    if out.len() != n {
-        return Answer::Refused(Refusal::LENGTH);
-    }
-    if excess(a, 1) != 0 {
-        return Answer::Refused(Refusal::COORDINATE);
-    }
-    if excess(b, 1) != 0 {
-        return Answer::Refused(Refusal::COORDINATE);
-    }
-    Answer::Done
-}
-
-// The sum of two lent elements of K, written to out.
-pub fn sum(a: &[u16], b: &[u16], out: &mut [u16]) -> Answer
-    ensures { λ r. ⌜ (r, now (out .exit)) ≡ sumOutcome (now (a .entry)) (now (b .entry)) (now (out .entry)) ⌝ }
-{
-    let answer = refused(a, b, out);
-    match answer {
-        Answer::Done => {
-            let x = Element::load(a, 0, 1);
-            let y = Element::load(b, 0, 1);
-            let total = x.plus(y, 1);
-            total.store(out, 0, 1);
-        }
-        Answer::Refused(_) => {}
-    }
-    answer
-}
-
-// The product of two lent elements of K, written to out.
-pub fn product(a: &[u16], b: &[u16], out: &mut [u16]) -> Answer
-    ensures { λ r. ⌜ (r, now (out .exit)) ≡ productOutcome (now (a .entry)) (now (b .entry)) (now (out .entry)) ⌝ }
-{
-    let answer = refused(a, b, out);
-    match answer {
-        Answer::Done => {
-            let x = Element::load(a, 0, 1);
-            let y = Element::load(b, 0, 1);
-            let result = x.times(y, 1);
-            result.store(out, 0, 1);
-        }
-        Answer::Refused(_) => {}
-    }
-    answer
 }

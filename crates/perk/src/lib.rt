@@ -3,7 +3,7 @@
 ghost use mathlib.Core.Path.{_≡_};
 ghost use Rattle.refusal.specs.Answer.{numbered};
 ghost use Rattle.refusal.specs.Verdict.{verdictNumber};
-ghost use Rattle.field.specs.Entry.{sumOutcome, productOutcome};
+ghost use Rattle.arithmetic.specs.Entry.{sumOutcome, productOutcome};
 ghost use Rattle.field.specs.Level.{levelAt};
 ghost use Rattle.constraints.specs.Entry.{constraintsOutcome, valuesOutcome};
 ghost use Rattle.prover.specs.Entry.{proveOutcome};
@@ -20,7 +20,7 @@ use package::Read;
 pub extern "C" fn perk_sum(a: &[u16], b: &[u16], out: &mut [u16]) -> u32
     ensures { λ r. ⌜ (r, now (out .exit)) ≡ numbered (sumOutcome (now (a .entry)) (now (b .entry)) (now (out .entry))) ⌝ }
 {
-    refusal::number(field::sum(a, b, out))
+    refusal::number(arithmetic::sum(a, b, out))
 }
 
 // The product of two elements of K.
@@ -28,7 +28,7 @@ pub extern "C" fn perk_sum(a: &[u16], b: &[u16], out: &mut [u16]) -> u32
 pub extern "C" fn perk_product(a: &[u16], b: &[u16], out: &mut [u16]) -> u32
     ensures { λ r. ⌜ (r, now (out .exit)) ≡ numbered (productOutcome (now (a .entry)) (now (b .entry)) (now (out .entry))) ⌝ }
 {
-    refusal::number(field::product(a, b, out))
+    refusal::number(arithmetic::product(a, b, out))
 }
 
 // The masked witness and all polynomials.

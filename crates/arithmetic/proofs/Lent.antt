@@ -12,10 +12,10 @@ use Rattle.lists.proofs.Words.{part-whole, put-whole, all-at}
 use Rattle.refusal.specs.Answer.{firstOf}
 use Rattle.refusal.specs.declared.Answer.the-variants.{Done}
 use Rattle.refusal.proofs.Answers.{none}
 use Rattle.field.specs.Level.{first, K}
 use Rattle.field.specs.Word.{element, words, within}
-use Rattle.field.specs.Entry.{long, rows}
+use Rattle.arithmetic.specs.Entry.{long, rows}
 use Rattle.field.proofs.Elements.{words-length, words-element-lt}
 
 pub record Lent (a b out : List ℕ) : Type 0 where
   pub a-length : length a ≡ 12

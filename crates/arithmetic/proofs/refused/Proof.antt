@@ -1,19 +1,19 @@
 use Rattle.field.specs.declared.Level.{Level}
 use mathlib.Core.Bool.{true, false, not}
 use mathlib.Core.List.{List, []}
 use borrow.Author.Tests.{eq-eqb, ne-eqb}
 use Rattle.refusal.specs.Answer.{firstOf}
 use Rattle.refusal.proofs.Answers.{pass, stop}
 use Rattle.field.specs.Level.{levelAt}
-use Rattle.field.specs.Entry.{long, rows}
+use Rattle.arithmetic.specs.Entry.{long, rows}
 use Rattle.field.proofs.Tested.{fine, above}
-use Rattle.field.proofs.Lent.{rows1, rows2, rows3, rows4}
+use Rattle.arithmetic.proofs.Lent.{rows1, rows2, rows3, rows4}
 use Prim.Native.Nat.{ℕ, _-_}
 use mathlib.Core.Path.{_≡_, sym, ap, _∙_}
 use lib.ListN.{length}
 use borrow.Author.Needs.{needs}
-use Rattle.field.proofs.refused.Statement.{statement}
-use Rattle.field.proofs.refused.Tie as tie
+use Rattle.arithmetic.proofs.refused.Statement.{statement}
+use Rattle.arithmetic.proofs.refused.Tie as tie
 
 -- a slice that is long enough, or not
 same : (s : List ℕ) {l : Level} → l ≡ levelAt 1 → length s ≡ l .coordinates → not (long s) ≡ false

@@ -1,0 +1,66 @@
+// The entries sum and product in K.
+ghost use mathlib.Core.Path.{_≡_};
+ghost use Rattle.refusal.specs.Answer.{firstOf};
+ghost use Rattle.arithmetic.specs.Entry.{rows, sumOutcome, productOutcome};
+use field::Element;
+use field::Level;
+use refusal::Answer;
+use refusal::Refusal;
+
+// The first refusal of sum and product that applies, or Done.
+fn refused(a: &[u16], b: &[u16], out: &[u16]) -> Answer
+    ensures { λ r. ⌜ r ≡ firstOf (rows (now (a .entry)) (now (b .entry)) (now (out .entry))) ⌝ }
+{
+    let level = Level::of(1);
+    let n = level.coordinates;
+    if a.len() != n {
+        return Answer::Refused(Refusal::LENGTH);
+    }
+    if b.len() != n {
+        return Answer::Refused(Refusal::LENGTH);
+    }
+    if out.len() != n {
+        return Answer::Refused(Refusal::LENGTH);
+    }
+    if field::excess(a, 1) != 0 {
+        return Answer::Refused(Refusal::COORDINATE);
+    }
+    if field::excess(b, 1) != 0 {
+        return Answer::Refused(Refusal::COORDINATE);
+    }
+    Answer::Done
+}
+
+// The sum of two lent elements of K, written to out.
+pub fn sum(a: &[u16], b: &[u16], out: &mut [u16]) -> Answer
+    ensures { λ r. ⌜ (r, now (out .exit)) ≡ sumOutcome (now (a .entry)) (now (b .entry)) (now (out .entry)) ⌝ }
+{
+    let answer = refused(a, b, out);
+    match answer {
+        Answer::Done => {
+            let x = Element::load(a, 0, 1);
+            let y = Element::load(b, 0, 1);
+            let total = x.plus(y, 1);
+            total.store(out, 0, 1);
+        }
+        Answer::Refused(_) => {}
+    }
+    answer
+}
+
+// The product of two lent elements of K, written to out.
+pub fn product(a: &[u16], b: &[u16], out: &mut [u16]) -> Answer
+    ensures { λ r. ⌜ (r, now (out .exit)) ≡ productOutcome (now (a .entry)) (now (b .entry)) (now (out .entry)) ⌝ }
+{
+    let answer = refused(a, b, out);
+    match answer {
+        Answer::Done => {
+            let x = Element::load(a, 0, 1);
+            let y = Element::load(b, 0, 1);
+            let result = x.times(y, 1);
+            result.store(out, 0, 1);
+        }
+        Answer::Refused(_) => {}
+    }
+    answer
+}

@@ -9,12 +9,13 @@ use Rattle.refusal.specs.declared.Answer.the-variants.{Done, Refused}
 use Rattle.refusal.specs.declared.Verdict.{Verdict}
 use Rattle.field.specs.Level.{levelAt}
 use Rattle.key.specs.declared.Key.{Key}
-use Rattle.package.specs.declared.Row.{Row}
+use Rattle.layout.specs.declared.Row.{Row}
+use Rattle.layout.specs.Layout.{checkFileRows}
+use Rattle.layout.specs.Tests.{keyOf, fileTests}
 use Rattle.package.specs.declared.Contents.{Contents}
 use Rattle.package.specs.declared.Read.{Read}
 use Rattle.package.specs.declared.Read.the-variants as read
-use Rattle.package.specs.Layout.{checkFileRows}
-use Rattle.package.specs.Reading.{keyOf, fileTests, readAs, reading}
+use Rattle.package.specs.Reading.{readAs, reading}
 use Rattle.checkfile.specs.Checking.{packageOf, checkOf, verdictOf, answered, checking}
 
 fields-only : (a : Answer) (c : Contents) {d : Contents} → readAs a c ≡ read.Fields d → (a ≡ Done) × (c ≡ d)

@@ -22,13 +22,14 @@ use Rattle.key.specs.declared.Key.{Key}
 use Rattle.field.specs.Word.{within}
 use Rattle.key.specs.Key.{Sized, lengths, below, withins}
 use Rattle.key.proofs.Checked.{checked-done}
-use Rattle.package.specs.declared.Row.{Row}
+use Rattle.layout.specs.declared.Row.{Row}
+use Rattle.layout.specs.Layout.{packageRows, checkFileRows}
+use Rattle.layout.specs.Tests.{words, keyOf, valueTests, rowTests, tests, fileTests, partOf}
+use Rattle.layout.proofs.Rows.{passed}
 use Rattle.package.specs.declared.Contents.{Contents}
 use Rattle.package.specs.declared.Read.the-variants.{Fields}
-use Rattle.package.specs.Layout.{packageRows, checkFileRows}
-use Rattle.package.specs.Reading.{words, keyOf, valueTests, rowTests, tests, fileTests, partOf, partIf, reading}
+use Rattle.package.specs.Reading.{partIf, reading}
 use Rattle.package.specs.Written.{contentOf, Package, Check, checkForm, written}
-use Rattle.package.proofs.Rows.{passed}
 use Rattle.package.proofs.Accepted.{none-append}
 use Rattle.package.proofs.Bytes.{words-bytes, words-length}
 use Rattle.package.proofs.Forms.{check-file-faithful}

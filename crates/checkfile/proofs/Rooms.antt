@@ -12,10 +12,12 @@ use Rattle.field.proofs.Fields.{bounded}
 use Rattle.key.specs.declared.Key.{Key}
 use Rattle.key.specs.Key.{Sized, degree}
 use Rattle.key.proofs.Sized.{degree-lt}
-use Rattle.package.specs.declared.Part.{Part}
-use Rattle.package.specs.Layout.{packageRows, checkFileRows}
-use Rattle.package.specs.Reading.{keyOf, fileTests, partOf, partIf}
-use Rattle.package.proofs.Accepted.{file-sized, rows-length}
+use Rattle.layout.specs.declared.Part.{Part}
+use Rattle.layout.specs.Layout.{packageRows, checkFileRows}
+use Rattle.layout.specs.Tests.{keyOf, fileTests, partOf}
+use Rattle.layout.proofs.Files.{rows-length}
+use Rattle.package.specs.Reading.{partIf}
+use Rattle.package.proofs.Accepted.{file-sized}
 use Rattle.checkfile.specs.Checking.{Accepts, content}
 
 module _ (s : List ℕ) (e : Accepts (levelAt 1) s) where

@@ -8,10 +8,11 @@ use Rattle.refusal.specs.declared.Answer.the-variants.{Done}
 use Rattle.refusal.specs.declared.Verdict.{Verdict}
 use Rattle.refusal.specs.declared.Verdict.the-variants as verdict
 use Rattle.field.specs.declared.Level.{Level}
+use Rattle.layout.specs.Layout.{checkFileRows}
+use Rattle.layout.specs.Tests.{word, words, keyOf, fileTests}
 use Rattle.package.specs.declared.Read.{Read}
 use Rattle.package.specs.declared.Read.the-variants as read
-use Rattle.package.specs.Layout.{checkFileRows}
-use Rattle.package.specs.Reading.{word, words, keyOf, fileTests, reading, fieldPart}
+use Rattle.package.specs.Reading.{reading, fieldPart}
 use Rattle.package.specs.Written.{Package, Check}
 use Rattle.verifier.specs.Entry.{verifyOutcome}
 use Rattle.checkfile.specs.declared.Checked.{Checked}

@@ -5,7 +5,7 @@ ghost use Prim.Native.Nat.{_+_, _*_, _%_, _≤_, _<_};
 ghost use lib.ListN.{length, take};
 ghost use Rattle.lists.specs.Words.{put};
 ghost use Rattle.field.specs.Level.{levelAt};
-ghost use Rattle.package.specs.Reading.{words, keyOf};
+ghost use Rattle.layout.specs.Tests.{words, keyOf};
 ghost use Rattle.verifier.specs.Entry.{verifyOutcome};
 ghost use Rattle.checkfile.specs.Checking.{checkNumber, content, Accepts, packageOf, checkOf, verdictOf, checking};
 ghost use Rattle.checkfile.specs.Line.{decimal, saidOf, printed};

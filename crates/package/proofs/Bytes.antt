@@ -7,7 +7,7 @@ use native.Mathlib.Omega.{arith}
 use lib.ListN.{length, getD, drop, length-take, List·getD-eq-default}
 use Rattle.lists.specs.Words.{part}
 use Rattle.lists.proofs.Words.{part-at}
-use Rattle.package.specs.Reading.{word, words}
+use Rattle.layout.specs.Tests.{word, words}
 use Rattle.package.specs.Written.{Bytes, twoBytes, wordBytes}
 
 pub words-bytes : (s : List ℕ) → words (wordBytes s) ≡ s

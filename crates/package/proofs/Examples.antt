@@ -8,10 +8,11 @@ use Rattle.lists.specs.Words.{all}
 use Rattle.field.specs.Level.{levelAt}
 use Rattle.field.specs.Word.{within}
 use Rattle.key.specs.Key.{degree, below}
+use Rattle.layout.specs.Layout.{packageRows, checkFileRows}
+use Rattle.layout.specs.Tests.{words, rowTests, tests, after, partOf}
 use Rattle.package.specs.declared.Read.{Read}
 use Rattle.package.specs.declared.Read.the-variants.{Fields, Refused}
-use Rattle.package.specs.Layout.{packageRows, checkFileRows}
-use Rattle.package.specs.Reading.{words, rowTests, tests, after, partOf, reading}
+use Rattle.package.specs.Reading.{reading}
 
 -- an element of K with only coordinate 0, before other bytes
 abbrev element : ℕ → List ℕ → List ℕ

@@ -15,8 +15,9 @@ use Rattle.refusal.proofs.Answers.{None, none}
 use Rattle.refusal.specs.declared.Answer.the-variants.{Done}
 use Rattle.field.specs.declared.Level.{Level}
 use Rattle.key.specs.declared.Key.{Key}
+use Rattle.layout.specs.Tests.{word, keyOf, tests, fileTests, after, partOf}
 use Rattle.package.specs.declared.Read.the-variants.{Fields}
-use Rattle.package.specs.Reading.{word, keyOf, tests, fileTests, after, partOf, partIf, readAs, reading}
+use Rattle.package.specs.Reading.{partIf, readAs, reading}
 use Rattle.package.specs.Written.{Bytes, twoBytes, joined, contentOf, Form, written, Accepted, handed, Faithful}
 use Rattle.package.proofs.Accepted.{none-append, none-join}
 use Rattle.package.proofs.Bytes.{two-word}

@@ -15,14 +15,14 @@ use Rattle.key.specs.declared.Key.{Key}
 use Rattle.key.specs.Key.{Sized, sizes}
 use Rattle.key.proofs.Sized.{sized}
 use Rattle.key.proofs.Fine.{within-le, below-lt}
-use Rattle.package.specs.declared.Row.{Row}
-use Rattle.package.specs.declared.Kind.{Kind}
-use Rattle.package.specs.declared.Kind.the-variants.{Elements, Coordinates}
-use Rattle.package.specs.Layout.{checkRows, packageRows, checkFileRows}
-use Rattle.package.specs.Reading.{word, words, keyAt, keyOf, valueTests, after}
+use Rattle.layout.specs.declared.Row.{Row}
+use Rattle.layout.specs.declared.Kind.{Kind}
+use Rattle.layout.specs.declared.Kind.the-variants.{Elements, Coordinates}
+use Rattle.layout.specs.Layout.{checkRows, packageRows, checkFileRows}
+use Rattle.layout.specs.Tests.{word, words, keyAt, keyOf, valueTests, after}
+use Rattle.layout.proofs.Files.{key-part}
+use Rattle.layout.proofs.Bounds.{bounds}
 use Rattle.package.specs.Written.{Bytes, wordBytes, joined, contentOf, Package, Check, packageFields, checkFields, Within, Valid, ValidCheck, packageForm, checkForm, Faithful}
-use Rattle.package.proofs.Accepted.{key-part}
-use Rattle.package.proofs.Bounds.{bounds}
 use Rattle.package.proofs.Bytes.{words-bytes, bytes-length, words-length, bytes-words, two-word, word-two, word-lt, two-bytes, word-bytes}
 use Rattle.package.proofs.Joined.{Fit, Fits, AllBytes, cut, content-bytes, fits-append, fits-split}
 use Rattle.package.proofs.Faithful.{FormLaws, faithful}

@@ -14,10 +14,10 @@ use Rattle.lists.specs.Words.{part}
 use Rattle.lists.proofs.Words.{part-length}
 use Rattle.refusal.proofs.Answers.{None}
 use Rattle.field.specs.declared.Level.{Level}
-use Rattle.package.specs.declared.Row.{Row}
-use Rattle.package.specs.Reading.{word, valueTests, rowTests, tests, after, partOf}
+use Rattle.layout.specs.declared.Row.{Row}
+use Rattle.layout.specs.Tests.{word, valueTests, rowTests, tests, after, partOf}
+use Rattle.layout.proofs.Rows.{Passed, passed}
 use Rattle.package.specs.Written.{Bytes, twoBytes, joined, contentOf}
-use Rattle.package.proofs.Rows.{Passed, passed}
 use Rattle.package.proofs.Accepted.{none-append, none-join}
 use Rattle.package.proofs.Bytes.{word-lt, bytes-part, bytes-cons, bytes-append, two-bytes}
 

@@ -1,7 +1,4 @@
-pub mod Words
-pub mod Rows
 pub mod Accepted
-pub mod Bounds
 pub mod Bytes
 pub mod Joined
 pub mod Faithful

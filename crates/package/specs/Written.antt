@@ -12,10 +12,11 @@ use Rattle.key.specs.Key.{Sized, shape, lengths, below}
 use Rattle.lists.specs.Words.{part}
 use Rattle.refusal.specs.Answer.{firstOf}
 use Rattle.refusal.specs.declared.Answer.the-variants.{Done}
-use Rattle.package.specs.declared.Row.{Row}
+use Rattle.layout.specs.declared.Row.{Row}
+use Rattle.layout.specs.Layout.{packageRows, checkFileRows}
+use Rattle.layout.specs.Tests.{keyOf, fileTests}
 use Rattle.package.specs.declared.Read.the-variants.{Fields}
-use Rattle.package.specs.Layout.{packageRows, checkFileRows}
-use Rattle.package.specs.Reading.{keyOf, fileTests, reading, fieldPart}
+use Rattle.package.specs.Reading.{reading, fieldPart}
 
 -- every number of a list is a byte
 abbrev pub Bytes : List ℕ → Type 0

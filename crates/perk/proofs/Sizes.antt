@@ -8,11 +8,11 @@ use Rattle.field.specs.Level.{levelAt}
 use Rattle.field.proofs.Fields.{bounded}
 use Rattle.key.specs.declared.Key.{Key}
 use Rattle.key.specs.Key.{Sized}
-use Rattle.package.specs.declared.Row.{Row}
+use Rattle.layout.specs.declared.Row.{Row}
+use Rattle.layout.specs.Layout.{checkFileRows}
 use Rattle.package.specs.declared.Contents.{Contents}
 use Rattle.package.specs.declared.Read.{Read}
 use Rattle.package.specs.declared.Read.the-variants.{Fields, Refused}
-use Rattle.package.specs.Layout.{checkFileRows}
 use Rattle.package.specs.Reading.{reading}
 use Rattle.package.proofs.Accepted.{file-sized}
 use Rattle.checkfile.proofs.Joined.{read-accepts}

@@ -1,6 +1,6 @@
 -- The readers' answers as the C interface gives them.
 use Prim.Native.Nat.{ℕ, _<_}
-use Rattle.package.specs.declared.Part.{Part}
+use Rattle.layout.specs.declared.Part.{Part}
 use Rattle.package.specs.declared.Read.{Read}
 use Rattle.package.specs.declared.Read.the-variants.{Fields, Refused}
 use Rattle.package.specs.Reading.{numberOf}

@@ -8,7 +8,7 @@ ghost use Rattle.field.specs.Level.{levelAt};
 ghost use Rattle.constraints.specs.Entry.{constraintsOutcome, valuesOutcome};
 ghost use Rattle.prover.specs.Entry.{proveOutcome};
 ghost use Rattle.verifier.specs.Entry.{verifyOutcome};
-ghost use Rattle.package.specs.Layout.{packageRows, checkFileRows};
+ghost use Rattle.layout.specs.Layout.{packageRows, checkFileRows};
 ghost use Rattle.package.specs.Reading.{reading, fieldPart};
 ghost use Rattle.checkfile.specs.Checking.{checkNumber, checking};
 ghost use Rattle.perk.specs.Files.{SmallSizes, readPut, spanOf};

@@ -1,5 +1,5 @@
 use Rattle.field.specs.Level.{levelAt}
-use Rattle.package.specs.Layout.{checkFileRows}
+use Rattle.layout.specs.Layout.{checkFileRows}
 use mathlib.Core.Path.{refl, sym, _∙_}
 use Rattle.checkfile.proofs.Joined.{read-accepts, told}
 use borrow.Author.Needs.{needs}

@@ -1,5 +1,5 @@
 use mathlib.Core.Path.{ap, _∙_}
-use Rattle.package.specs.Reading.{words}
+use Rattle.layout.specs.Tests.{words}
 use borrow.Author.Needs.{needs}
 use Rattle.checkfile.proofs.load.Statement.{statement}
 use Rattle.checkfile.proofs.load.Tie as tie

@@ -7,8 +7,8 @@ use mathlib.Core.List.{List, _++_, append-assoc, append-nil}
 use lib.ListN.{length, take, drop, set, length-set, length-drop}
 use lib.Seq.{take-suc-set, length-take-le}
 use denote.Ref.{now}
-use Rattle.package.specs.Reading.{word, words}
-use Rattle.package.proofs.Words.{words-cons, words-short}
+use Rattle.layout.specs.Tests.{word, words}
+use Rattle.layout.proofs.Words.{words-cons, words-short}
 use Rattle.checkfile.proofs.words_into.Statement.{statement}
 use Rattle.checkfile.proofs.words_into.Tie as tie
 

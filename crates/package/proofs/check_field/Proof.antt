@@ -7,9 +7,10 @@ use borrow.Author.Needs.{needs}
 use Rattle.lists.specs.Words.{part}
 use Rattle.field.specs.Level.{levelAt}
 use Rattle.key.specs.declared.Key.{Key}
-use Rattle.package.specs.declared.Part.{Part}
-use Rattle.package.specs.Layout.{packageRows, checkFileRows}
-use Rattle.package.specs.Reading.{keyOf, partOf, partIf, fieldPart}
+use Rattle.layout.specs.declared.Part.{Part}
+use Rattle.layout.specs.Layout.{packageRows, checkFileRows}
+use Rattle.layout.specs.Tests.{keyOf, partOf}
+use Rattle.package.specs.Reading.{partIf, fieldPart}
 use Rattle.package.proofs.Accepted.{field-within, file-sized}
 use Rattle.package.proofs.check_field.Statement.{statement}
 use Rattle.package.proofs.check_field.Tie as tie

@@ -1,14 +1,13 @@
 use Prim.Native.Nat.{_+_, _≤_}
-use mathlib.Core.Path.{_≡_, refl, sym, ap, subst, _∙_}
+use mathlib.Core.Path.{refl, sym, ap, subst}
 use native.Mathlib.Nat.{add-comm, add-sub-cancel-left}
 use native.Mathlib.Omega.{arith}
 use lib.ListN.{length, take}
 use borrow.Author.Needs.{needs}
 use Rattle.lists.specs.Words.{part}
 use Rattle.field.specs.Level.{levelAt}
-use Rattle.package.specs.declared.Part.{Part}
-use Rattle.package.specs.Layout.{checkFileRows}
-use Rattle.package.specs.Reading.{fieldPart}
+use Rattle.layout.specs.declared.Part.{Part}
+use Rattle.layout.specs.Layout.{checkFileRows}
 use Rattle.package.proofs.Accepted.{field-within}
 use Rattle.package.proofs.content.Statement.{statement}
 use Rattle.package.proofs.content.Tie as tie

@@ -5,8 +5,9 @@ use Rattle.refusal.specs.Answer.{firstOf}
 use Rattle.refusal.specs.declared.Answer.the-variants.{Done}
 use Rattle.field.specs.Level.{levelAt}
 use Rattle.key.specs.declared.Key.{Key}
-use Rattle.package.specs.Layout.{checkFileRows}
-use Rattle.package.specs.Reading.{keyOf, fileTests, partOf, partIf}
+use Rattle.layout.specs.Layout.{checkFileRows}
+use Rattle.layout.specs.Tests.{keyOf, fileTests, partOf}
+use Rattle.package.specs.Reading.{partIf}
 use Rattle.package.proofs.Accepted.{file-sized}
 use Rattle.package.proofs.located.Statement.{statement}
 use Rattle.package.proofs.located.Tie as tie

@@ -6,9 +6,9 @@ use Rattle.refusal.specs.Answer.{firstOf}
 use Rattle.refusal.specs.declared.Answer.the-variants.{Done}
 use Rattle.field.specs.Level.{levelAt}
 use Rattle.key.specs.declared.Key.{Key}
-use Rattle.package.specs.declared.Part.{Part}
-use Rattle.package.specs.Layout.{checkFileRows}
-use Rattle.package.specs.Reading.{word, keyOf, fileTests, partOf}
+use Rattle.layout.specs.declared.Part.{Part}
+use Rattle.layout.specs.Layout.{checkFileRows}
+use Rattle.layout.specs.Tests.{word, keyOf, fileTests, partOf}
 use Rattle.package.proofs.Accepted.{file-within, file-sized, serial-len}
 use Rattle.package.proofs.read_fields.Statement.{statement}
 use Rattle.package.proofs.read_fields.Tie as tie

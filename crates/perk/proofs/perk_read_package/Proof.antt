@@ -1,7 +1,7 @@
 use native.Mathlib.Omega.{arith}
 use mathlib.Core.Path.{ap, _∙_}
+use Rattle.layout.specs.Layout.{packageRows, checkFileRows}
 use Rattle.package.specs.declared.Read.{Read}
-use Rattle.package.specs.Layout.{packageRows, checkFileRows}
 use Rattle.perk.specs.Files.{readPut}
 use Rattle.perk.proofs.Sizes.{read-small}
 use borrow.Author.Needs.{needs}

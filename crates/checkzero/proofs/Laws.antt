@@ -16,12 +16,12 @@ use Rattle.field.specs.RingLaws.{ring}
 use Rattle.field.specs.declared.Level.{Level}
 use Rattle.field.specs.Level.{K}
 use Rattle.field.specs.Word.{words}
-use Rattle.rows.specs.Elements.{el, Words}
-use Rattle.rows.specs.Polynomial.{sum}
-use Rattle.rows.specs.Step.{Put, Added}
-use Rattle.rows.proofs.SumLaws.{sum-cong}
-use Rattle.rows.proofs.ListLaws.{concat-cong, concat-parts}
-use Rattle.rows.proofs.ElementLaws.{part-words, fits-le, fits-all}
+use Rattle.row.specs.Elements.{el, Words}
+use Rattle.row.specs.Polynomial.{sum}
+use Rattle.row.specs.Step.{Put, Added}
+use Rattle.row.proofs.SumLaws.{sum-cong}
+use Rattle.row.proofs.ElementLaws.{part-words, fits-le, fits-all}
+use Rattle.rows.proofs.BlockLaws.{concat-cong, concat-parts}
 use Rattle.folding.specs.Weights.{weightedSum}
 use Rattle.folding.proofs.WeightLaws.{sum-split, added-same, shares-none, shares-more}
 use Rattle.constraints.specs.Graded.{summed, sigma, pow}

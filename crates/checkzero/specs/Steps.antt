@@ -5,9 +5,9 @@ use Rattle.field.specs.Ring.{Ring}
 use Rattle.field.specs.declared.Level.{Level}
 use Rattle.field.specs.Level.{K}
 use Rattle.constraints.specs.Graded.{sigma, pow}
-use Rattle.rows.specs.Elements.{el}
-use Rattle.rows.specs.Polynomial.{column, check}
-use Rattle.rows.specs.Outcome.{smallOf, entryOf, digitOf, elementOf}
+use Rattle.row.specs.Elements.{el}
+use Rattle.row.specs.Polynomial.{column, check}
+use Rattle.row.specs.Lent.{smallOf, entryOf, digitOf, elementOf}
 use Rattle.folding.specs.Weights.{weightedSum}
 
 module _ (l : Level) where

@@ -8,16 +8,16 @@ ghost use Rattle.lists.specs.Words.{concat};
 ghost use Rattle.field.specs.Level.{levelAt, K};
 ghost use Rattle.field.specs.Packed.{Holds};
 ghost use Rattle.field.specs.Word.{words, isZero};
-ghost use Rattle.rows.specs.Elements.{el, Fits, Words, valueOf, Held};
-ghost use Rattle.rows.specs.Outcome.{LentKey};
-ghost use Rattle.rows.specs.Step.{Step, Added};
+ghost use Rattle.row.specs.Elements.{el, Fits, Words, valueOf, Held};
+ghost use Rattle.row.specs.Lent.{LentKey};
+ghost use Rattle.row.specs.Step.{Step, Added};
 ghost use Rattle.checkzero.specs.CheckZero.{mask, maskSum};
 ghost use Rattle.checkzero.specs.Slices.{every};
 ghost use Rattle.checkzero.specs.Steps.{weightedAt, evaluated};
 use field::Element;
 use field::Multiples;
 use folding::polynomials;
-use rows::elements;
+use row::elements;
 
 // Zero exactly when each of the first size elements is zero.
 pub fn nonzero(p: &[u16], size: usize, level: usize) -> u16

@@ -14,8 +14,8 @@ use Rattle.refusal.specs.declared.Answer.the-variants.{Done}
 use Rattle.field.specs.declared.Level.{Level}
 use Rattle.field.specs.Level.{levelAt}
 use Rattle.field.proofs.Fields.{Bounded, bounded}
-use Rattle.rows.specs.Elements.{Fits, Words, Bits}
-use Rattle.rows.specs.Outcome.{LentKey}
+use Rattle.row.specs.Elements.{Fits, Words, Bits}
+use Rattle.row.specs.Lent.{LentKey}
 use Rattle.key.specs.declared.Key.{Key}
 use Rattle.key.specs.declared.Lengths.{Lengths}
 use Rattle.key.specs.Key.{degree, lengths, Sized, below, withins}

@@ -15,9 +15,10 @@ use Rattle.field.specs.Binary.{xor, bit}
 use Rattle.field.specs.declared.Level.{Level}
 use Rattle.field.specs.Level.{F, K, embed}
 use Rattle.field.specs.Word.{odd, small, element, words}
-use Rattle.rows.specs.Lists.{tab}
-use Rattle.rows.specs.Elements.{el, Bits}
-use Rattle.rows.specs.Polynomial as R
+use Rattle.row.specs.Lists.{tab}
+use Rattle.row.specs.Elements.{el, Bits}
+use Rattle.row.specs.Polynomial as R
+use Rattle.row.specs.Lent.{smallOf, entryOf, digitOf, bitOf, elementOf}
 use Rattle.rows.specs.Outcome as O
 use Rattle.key.specs.Key.{degree}
 use Rattle.constraints.specs.Graded.{summed, sigma, product, power, Polynomial, coefficient, linear, raised, polynomials, point}
@@ -128,11 +129,11 @@ tab-concat zero f = refl
 tab-concat (suc n) f = ap (λ s. s ++ (f n ∷ [])) (tab-concat n f)
 
 -- bits of bytes that are 0 or 1
-bits-same : (d : ℕ) (s : List ℕ) → Bits s → (i k : ℕ) → O.bitOf d s i k ≡ bits d s i k
+bits-same : (d : ℕ) (s : List ℕ) → Bits s → (i k : ℕ) → bitOf d s i k ≡ bits d s i k
 unfolding bits
 bits-same d s h i k = ap odd (sym (mod-eq-of-lt (h (d * i + k))) ∙ ap (λ c. getD s (c + k) 0 % 2) (mul-comm d i))
 
-digits-same : (n : ℕ) (positions : List ℕ) (i k : ℕ) → O.digitOf (degree n) positions i k ≡ witnessOf n positions i k
+digits-same : (n : ℕ) (positions : List ℕ) (i k : ℕ) → digitOf (degree n) positions i k ≡ witnessOf n positions i k
 unfolding R.digit witness digitIn
 digits-same n positions i k = refl
 
@@ -147,26 +148,26 @@ module _ (l : Level) (n m : ℕ) (h x : List ℕ) where
   abbrev key : Instance (F l)
   key = keyOf l n m h x
 
-  entry-same : (e i : ℕ) → O.entryOf l n h e i ≡ embed l .map (key .H e i)
+  entry-same : (e i : ℕ) → entryOf l n h e i ≡ embed l .map (key .H e i)
   unfolding smallAt
   entry-same e i = ap (λ c. embed l .map (small l (getD h (c + i) 0))) (mul-comm n e)
 
-  small-same : (j : ℕ) → O.smallOf l x j ≡ embed l .map (key .x j)
+  small-same : (j : ℕ) → smallOf l x j ≡ embed l .map (key .x j)
   unfolding smallAt
   small-same j = refl
 
-  element-same : (s : List ℕ) (i k : ℕ) → O.elementOf l d s i k ≡ elements l d s i k
+  element-same : (s : List ℕ) (i k : ℕ) → elementOf l d s i k ≡ elements l d s i k
   unfolding el elements elementAt
   element-same s i k = ap (λ c. element l (part (l .coordinates * (c + k)) (l .coordinates) s)) (mul-comm d i)
 
   -- the coefficients of the polynomials
   module _ (positions v : List ℕ) where
-    pub column-written : (j k : ℕ) → j < n → R.column (K l) n d (O.entryOf l n h) (O.smallOf l x) (O.digitOf d positions) (O.elementOf l d v) j k
+    pub column-written : (j k : ℕ) → j < n → R.column (K l) n d (entryOf l n h) (smallOf l x) (digitOf d positions) (elementOf l d v) j k
         ≡ coefficient (K l) (suc d) (polynomial (systemOf l n m h x) (witnessOf n positions) (elements l d v) j) k
     column-written j k a = (λ t. R.column (K l) n d (λ e i. entry-same e i t) (λ j. small-same j t) (λ i k. digits-same n positions i k t) (λ i k. element-same v i k t) j k)
         ∙ column-same (embed l) key d (witnessOf n positions) (elements l d v) j k a
 
-    pub check-written : (e k : ℕ) → R.check (K l) n d (O.entryOf l n h) (O.smallOf l x) (O.digitOf d positions) (O.elementOf l d v) e k
+    pub check-written : (e k : ℕ) → R.check (K l) n d (entryOf l n h) (smallOf l x) (digitOf d positions) (elementOf l d v) e k
         ≡ coefficient (K l) (suc d) (polynomial (systemOf l n m h x) (witnessOf n positions) (elements l d v) (n + e)) k
     check-written e k = (λ t. R.check (K l) n d (λ e i. entry-same e i t) (λ j. small-same j t) (λ i k. digits-same n positions i k t) (λ i k. element-same v i k t) e k)
         ∙ check-same (embed l) key d (witnessOf n positions) (elements l d v) e k
@@ -184,12 +185,12 @@ module _ (l : Level) (n m : ℕ) (h x : List ℕ) where
     unfolding el
     challenge = ap (λ c. element l (part c (l .coordinates) Δ)) (mul-zero (l .coordinates)) ∙ ap (element l) (part-whole (l .coordinates) Δ e)
 
-    pub column-value-written : (j : ℕ) → j < n → R.columnValue (K l) n d (O.entryOf l n h) (O.smallOf l x) (O.bitOf d t) (O.elementOf l d q) (el l Δ 0) j
+    pub column-value-written : (j : ℕ) → j < n → R.columnValue (K l) n d (entryOf l n h) (smallOf l x) (bitOf d t) (elementOf l d q) (el l Δ 0) j
         ≡ value (systemOf l n m h x) (bits d t) (elements l d q) (element l Δ) j
     column-value-written j a = (λ s. R.columnValue (K l) n d (λ e i. entry-same e i s) (λ j. small-same j s) (λ i k. bits-same d t b i k s) (λ i k. element-same q i k s) (challenge s) j)
         ∙ column-value (embed l) key d (bits d t) (elements l d q) (element l Δ) j a
 
-    pub check-value-written : (e : ℕ) → R.checkValue (K l) n d (O.entryOf l n h) (O.smallOf l x) (O.bitOf d t) (O.elementOf l d q) (el l Δ 0) e
+    pub check-value-written : (e : ℕ) → R.checkValue (K l) n d (entryOf l n h) (smallOf l x) (bitOf d t) (elementOf l d q) (el l Δ 0) e
         ≡ value (systemOf l n m h x) (bits d t) (elements l d q) (element l Δ) (n + e)
     check-value-written e = (λ s. R.checkValue (K l) n d (λ e i. entry-same e i s) (λ j. small-same j s) (λ i k. bits-same d t b i k s) (λ i k. element-same q i k s) (challenge s) e)
         ∙ check-value (embed l) key d (bits d t) (elements l d q) (element l Δ) e

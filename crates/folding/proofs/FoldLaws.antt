@@ -9,11 +9,11 @@ use borrow.Author.Count.{below-more}
 use Rattle.field.specs.Binary.{bit}
 use Rattle.field.specs.Ring.{Ring}
 use Rattle.field.specs.RingLaws.{ring}
-use Rattle.rows.specs.Polynomial.{chosen, sum, up, times, unit, tail, z}
-use Rattle.rows.specs.Step.{Put, cut}
-use Rattle.rows.proofs.NumberLaws.{cells, chosen-low, chosen-high, chosen-below, pow-double}
-use Rattle.rows.proofs.ProductLaws.{cut-low, cut-high, cut-ext, cut-cong, times-low, times-top, up-suc}
-use Rattle.rows.proofs.SumLaws.{sum-cong}
+use Rattle.row.specs.Polynomial.{chosen, sum, up, times, unit, tail, z}
+use Rattle.row.specs.Step.{Put, cut}
+use Rattle.row.proofs.NumberLaws.{cells, chosen-low, chosen-high, chosen-below, pow-double}
+use Rattle.row.proofs.ProductLaws.{cut-low, cut-high, cut-ext, cut-cong, times-low, times-top, up-suc}
+use Rattle.row.proofs.SumLaws.{sum-cong}
 use Rattle.folding.specs.Steps.{joined, Joined, Halved}
 use Rattle.folding.proofs.WeightLaws.{sum-add, sum-split}
 

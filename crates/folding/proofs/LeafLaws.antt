@@ -4,9 +4,9 @@ use Prim.Native.Nat.{ℕ, _+_, _*_, _≤_, _<_}
 use native.Mathlib.Omega.{arith}
 use borrow.Author.Count.{below-more}
 use Rattle.field.specs.Ring.{Ring}
-use Rattle.rows.specs.Step.{Put}
-use Rattle.rows.proofs.SumLaws.{sum-none, sum-more}
-use Rattle.rows.proofs.NumberLaws.{row-le}
+use Rattle.row.specs.Step.{Put}
+use Rattle.row.proofs.SumLaws.{sum-none, sum-more}
+use Rattle.row.proofs.NumberLaws.{row-le}
 use Rattle.folding.specs.Weights.{multiplier, leaf}
 use Rattle.folding.specs.Steps.{Leaves}
 

@@ -11,11 +11,11 @@ use Rattle.field.specs.Binary.{bit}
 use Rattle.field.specs.Ring.{Ring}
 use Rattle.field.specs.RingLaws.{ring}
 use Rattle.field.specs.Word.{odd}
-use Rattle.rows.specs.Polynomial.{sum, end, value, raise, columnValue, checkValue}
-use Rattle.rows.specs.Step.{Put}
-use Rattle.rows.proofs.SumLaws.{sum-cong}
-use Rattle.rows.proofs.ValueLaws.{end-below}
-use Rattle.rows.proofs.NumberLaws.{pow-double, chosen-low, chosen-high}
+use Rattle.row.specs.Polynomial.{sum, end, value, raise, columnValue, checkValue}
+use Rattle.row.specs.Step.{Put}
+use Rattle.row.proofs.SumLaws.{sum-cong}
+use Rattle.row.proofs.ValueLaws.{end-below}
+use Rattle.row.proofs.NumberLaws.{pow-double, chosen-low, chosen-high}
 use Rattle.folding.specs.Weights.{weightedSum, multiplier, leaf}
 use Rattle.folding.specs.Steps.{Leaves, Folded, rowTotal}
 use Rattle.folding.proofs.WeightLaws.{sum-add, sum-split, leaves-sum, weighted-rows}

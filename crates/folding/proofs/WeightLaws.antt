@@ -7,9 +7,9 @@ use native.Mathlib.Omega.{arith}
 use native.Mathlib.Numerals.{unary-clauses}
 use Rattle.field.specs.Ring.{Ring}
 use Rattle.field.specs.RingLaws.{ring}
-use Rattle.rows.specs.Polynomial.{sum, monomial, z, column, check}
-use Rattle.rows.specs.Step.{Added}
-use Rattle.rows.proofs.SumLaws.{sum-more, sum-cong}
+use Rattle.row.specs.Polynomial.{sum, monomial, z, column, check}
+use Rattle.row.specs.Step.{Added}
+use Rattle.row.proofs.SumLaws.{sum-more, sum-cong}
 use Rattle.folding.specs.Weights.{weightedSum, multiplier, leaf}
 use Rattle.folding.specs.Steps.{Leaves}
 

@@ -3,8 +3,8 @@ use mathlib.Core.Path.{_≡_}
 use mathlib.Core.Bool.{Bool, not}
 use Prim.Native.Nat.{ℕ, _+_, _*_, _^_, _≤_, _<_}
 use Rattle.field.specs.Ring.{Ring}
-use Rattle.rows.specs.Polynomial.{sum, times, end}
-use Rattle.rows.specs.Step.{cut, Apart}
+use Rattle.row.specs.Polynomial.{sum, times, end}
+use Rattle.row.specs.Step.{cut, Apart}
 use Rattle.folding.specs.Weights.{leaf}
 
 module _ (R : Ring) where

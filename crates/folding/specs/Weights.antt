@@ -1,7 +1,7 @@
 -- Weighted sums of the n + m polynomials or values: a reader of the entries need not believe this file.
 use Prim.Native.Nat.{ℕ, _+_}
 use Rattle.field.specs.Ring.{Ring}
-use Rattle.rows.specs.Polynomial.{sum}
+use Rattle.row.specs.Polynomial.{sum}
 
 module _ (R : Ring) where
   open Ring R using (Carrier, zero as 𝟘, add as _⊕_, mul as _⊗_)

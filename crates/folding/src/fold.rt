@@ -7,14 +7,14 @@ ghost use Rattle.field.specs.Binary.{bit};
 ghost use Rattle.field.specs.Level.{levelAt, K};
 ghost use Rattle.field.specs.Word.{odd};
 ghost use Rattle.field.specs.Packed.{Holds, Tabulates};
-ghost use Rattle.rows.specs.Elements.{el, Fits, Words, Tabled};
-ghost use Rattle.rows.specs.Polynomial.{sum, digit, z};
-ghost use Rattle.rows.specs.Step.{Step};
+ghost use Rattle.row.specs.Elements.{el, Fits, Words, Tabled};
+ghost use Rattle.row.specs.Polynomial.{sum, digit, z};
+ghost use Rattle.row.specs.Step.{Step};
 ghost use Rattle.folding.specs.Steps.{Joined, Halved};
 use crate::power;
 use field::Element;
 use field::Multiples;
-use rows::elements;
+use row::elements;
 
 // x where w is 0, and y where it is 1.
 fn chosen(x: Element, y: Element, w: u64, level: usize) -> Element

@@ -4,14 +4,14 @@ ghost use Prim.Native.Nat.{ℕ, _+_, _*_, _<_, _≤_};
 ghost use lib.ListN.{length};
 ghost use Rattle.field.specs.Level.{levelAt, K};
 ghost use Rattle.field.specs.Packed.{Holds, Tabulates};
-ghost use Rattle.rows.specs.Elements.{el, Fits, Words, Within, Tabled};
-ghost use Rattle.rows.specs.Outcome.{smallOf, entryOf};
-ghost use Rattle.rows.specs.Step.{Step, Added};
+ghost use Rattle.row.specs.Elements.{el, Fits, Words, Within, Tabled};
+ghost use Rattle.row.specs.Lent.{smallOf, entryOf};
+ghost use Rattle.row.specs.Step.{Step, Added};
 ghost use Rattle.folding.specs.Weights.{multiplier, leaf};
 ghost use Rattle.folding.specs.Steps.{Leaves};
 use field::Element;
 use field::Multiples;
-use rows::elements;
+use row::elements;
 
 // Adds the factor of a table times entry i of row e of H, which stands from place at on, to element i of dst, for the first n.
 fn add_row(dst: &mut [u16], multiples: Multiples, h: &[u16], at: usize, n: usize, level: usize)
@@ -30,7 +30,7 @@ pub fn multipliers(dst: &mut [u16], h: &[u16], alpha: &[u16], n: usize, m: usize
     requires { ⌜ Words (levelAt level) (now alpha) × Within (levelAt level) (now h) × (length (now h) ≡ n * m) × Fits (levelAt level) (n + m) (length (now alpha)) × Fits (levelAt level) n (length (now dst)) ⌝ }
     ensures { λ _. ⌜ Step (levelAt level) (now (dst .entry)) (now (dst .exit)) (λ f g. (i : ℕ) → i < n → g i ≡ multiplier (K (levelAt level)) n m (entryOf (levelAt level) n (now (h .entry))) (el (levelAt level) (now (alpha .entry))) i) ⌝ }
 {
-    rows::clear(dst);
+    row::clear(dst);
     let mut at: usize = 0;
     let mut e: usize = 0;
     while e < m {

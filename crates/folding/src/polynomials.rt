@@ -3,18 +3,18 @@ ghost use mathlib.Core.Path.{_≡_};
 ghost use Prim.Native.Nat.{ℕ, _+_, _*_, _^_, _<_, _≤_};
 ghost use lib.ListN.{length};
 ghost use Rattle.field.specs.Level.{levelAt, K};
-ghost use Rattle.rows.specs.Elements.{el, Fits, Words, Within, valueOf, Held};
-ghost use Rattle.rows.specs.Outcome.{LentKey, smallOf, entryOf, digitOf, elementOf};
-ghost use Rattle.rows.specs.Polynomial.{sum, digit, z, column, check};
-ghost use Rattle.rows.specs.Step.{Step, Added};
+ghost use Rattle.row.specs.Elements.{el, Fits, Words, Within, valueOf, Held};
+ghost use Rattle.row.specs.Lent.{LentKey, smallOf, entryOf, digitOf, elementOf};
+ghost use Rattle.row.specs.Polynomial.{sum, digit, z, column, check};
+ghost use Rattle.row.specs.Step.{Step, Added};
 ghost use Rattle.folding.specs.Weights.{leaf, weightedSum};
 use crate::fold;
 use crate::leaves;
 use crate::power;
 use field::Element;
 use field::Multiples;
-use rows::elements;
-use rows::sums;
+use row::elements;
+use row::sums;
 
 // Adds a row's share to the first d coefficients: its columns with their weights, where x' has weight beta. The row's offsets stand from
 // element at on.
@@ -110,8 +110,8 @@ pub fn weighted(
     requires { ⌜ (length (now positions) ≡ n) × (length (now offsets) ≡ levelAt level .coordinates * (d * n)) × Fits (levelAt level) (n + m) (length (now alpha)) × Fits (levelAt level) d (length (now dst)) × Fits (levelAt level) n (length (now beta)) × Fits (levelAt level) ((d + 1) * 2 ^ d) (length (now work)) ⌝ }
     ensures { λ _. ⌜ Step (levelAt level) (now (dst .entry)) (now (dst .exit)) (λ f g. (k : ℕ) → k < d → g k ≡ weightedSum (K (levelAt level)) n m (el (levelAt level) (now (alpha .entry))) (λ j. column (K (levelAt level)) n d (entryOf (levelAt level) n (now (h .entry))) (smallOf (levelAt level) (now (x .entry))) (digitOf d (now (positions .entry))) (elementOf (levelAt level) d (now (offsets .entry))) j k) (λ e. check (K (levelAt level)) n d (entryOf (levelAt level) n (now (h .entry))) (smallOf (levelAt level) (now (x .entry))) (digitOf d (now (positions .entry))) (elementOf (levelAt level) d (now (offsets .entry))) e k)) ⌝ }
 {
-    rows::clear(dst);
-    rows::clear(work);
+    row::clear(dst);
+    row::clear(work);
     leaves::multipliers(beta, h, alpha, n, m, level);
     shares(dst, n, d, alpha, x, beta, positions, offsets, work, level);
 }

@@ -5,18 +5,18 @@ ghost use lib.ListN.{length, getD};
 ghost use Rattle.field.specs.Level.{levelAt, K};
 ghost use Rattle.field.specs.Word.{odd};
 ghost use Rattle.field.specs.Packed.{Holds, Tabulates};
-ghost use Rattle.rows.specs.Elements.{el, Fits, Words, Within, Bits, Held, Tabled, valueOf};
-ghost use Rattle.rows.specs.Outcome.{LentKey, smallOf, entryOf, bitOf, elementOf};
-ghost use Rattle.rows.specs.Polynomial.{sum, value, columnValue, checkValue};
-ghost use Rattle.rows.specs.Step.{Step, Put};
+ghost use Rattle.row.specs.Elements.{el, Fits, Words, Within, Bits, Held, Tabled, valueOf};
+ghost use Rattle.row.specs.Lent.{LentKey, smallOf, entryOf, bitOf, elementOf};
+ghost use Rattle.row.specs.Polynomial.{sum, value, columnValue, checkValue};
+ghost use Rattle.row.specs.Step.{Step, Put};
 ghost use Rattle.folding.specs.Weights.{weightedSum, leaf};
 ghost use Rattle.folding.specs.Steps.{Folded, rowTotal};
 use crate::leaves;
 use crate::power;
 use field::Element;
 use field::Multiples;
-use rows::elements;
-use rows::products;
+use row::elements;
+use row::products;
 
 // The factor of a table times each of the first n elements of src, written to dst.
 fn scale(dst: &mut [u16], multiples: Multiples, src: &[u16], n: usize, level: usize)
@@ -221,9 +221,9 @@ pub fn weighted(
     requires { ⌜ (length (now bits) ≡ d * n) × (length (now numbers) ≡ levelAt level .coordinates * (d * n)) × (length (now delta) ≡ levelAt level .coordinates) × Fits (levelAt level) (n + m) (length (now alpha)) × Fits (levelAt level) n (length (now beta)) × Fits (levelAt level) n (length (now scaled)) × Fits (levelAt level) (2 ^ d) (length (now work)) × Fits (levelAt level) (2 ^ d) (length (now second)) ⌝ }
     ensures { λ r. ⌜ Holds (levelAt level) (r .words) (weightedSum (K (levelAt level)) n m (el (levelAt level) (now (alpha .entry))) (columnValue (K (levelAt level)) n d (entryOf (levelAt level) n (now (h .entry))) (smallOf (levelAt level) (now (x .entry))) (bitOf d (now (bits .entry))) (elementOf (levelAt level) d (now (numbers .entry))) (el (levelAt level) (now (delta .entry)) 0)) (checkValue (K (levelAt level)) n d (entryOf (levelAt level) n (now (h .entry))) (smallOf (levelAt level) (now (x .entry))) (bitOf d (now (bits .entry))) (elementOf (levelAt level) d (now (numbers .entry))) (el (levelAt level) (now (delta .entry)) 0))) ⌝ }
 {
-    rows::clear(scaled);
-    rows::clear(work);
-    rows::clear(second);
+    row::clear(scaled);
+    row::clear(work);
+    row::clear(second);
     let challenge = elements::get(delta, 0, level);
     let multiples = Multiples::of(challenge, level);
     leaves::multipliers(beta, h, alpha, n, m, level);

@@ -11,9 +11,9 @@ use Rattle.field.specs.Ring.{Ring}
 use Rattle.field.specs.declared.Level.{Level}
 use Rattle.field.specs.Level.{K}
 use Rattle.field.specs.Word.{words, isZero}
-use Rattle.rows.specs.Elements.{el}
-use Rattle.rows.specs.Polynomial.{column, check}
-use Rattle.rows.specs.Outcome.{smallOf, entryOf, digitOf, elementOf}
+use Rattle.row.specs.Elements.{el}
+use Rattle.row.specs.Polynomial.{column, check}
+use Rattle.row.specs.Lent.{smallOf, entryOf, digitOf, elementOf}
 use Rattle.key.specs.Key.{degree}
 use Rattle.constraints.specs.Graded.{sigma, Polynomial, coefficient, polynomials}
 use Rattle.constraints.specs.System.{System, polynomial}

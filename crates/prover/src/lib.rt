@@ -8,7 +8,7 @@ ghost use Rattle.lists.specs.Lent.{long};
 ghost use Rattle.refusal.specs.Answer.{firstOf, decided};
 ghost use Rattle.refusal.specs.declared.Answer.the-variants.{Done};
 ghost use Rattle.field.specs.Level.{levelAt};
-ghost use Rattle.rows.specs.Outcome.{LentKey};
+ghost use Rattle.row.specs.Lent.{LentKey};
 ghost use Rattle.key.specs.Key.{Sized, lengths};
 ghost use Rattle.constraints.specs.Entry.{system};
 ghost use Rattle.constraints.specs.Slices.{witnessOf};

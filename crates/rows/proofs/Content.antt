@@ -12,13 +12,13 @@ use Rattle.field.specs.Ring.{Ring}
 use Rattle.field.specs.declared.Level.{Level}
 use Rattle.field.specs.Level.{K}
 use Rattle.field.specs.Word.{words}
-use Rattle.rows.specs.Elements.{el, Words}
-use Rattle.rows.specs.Polynomial.{sum, monomial}
-use Rattle.rows.specs.Step.{Step, AddedDown}
-use Rattle.rows.proofs.ListLaws.{concat-cong, concat-add, concat-flat, concat-parts}
-use Rattle.rows.proofs.NumberLaws.{row-le, cells}
-use Rattle.rows.proofs.ElementLaws.{part-words, fits-le, fits-all}
-use Rattle.rows.proofs.SumLaws.{Rows}
+use Rattle.row.specs.Elements.{el, Words}
+use Rattle.row.specs.Polynomial.{sum, monomial}
+use Rattle.row.specs.Step.{Step, AddedDown}
+use Rattle.row.proofs.NumberLaws.{row-le, cells}
+use Rattle.row.proofs.ElementLaws.{part-words, fits-le, fits-all}
+use Rattle.rows.proofs.BlockLaws.{concat-cong, concat-add, concat-flat, concat-parts}
+use Rattle.rows.proofs.Shares.{Rows}
 
 -- y added at place d of row j, of s elements
 module _ (R : Ring) where

@@ -1,7 +1,3 @@
-pub mod ListLaws
-pub mod NumberLaws
-pub mod ElementLaws
-pub mod ProductLaws
-pub mod ValueLaws
-pub mod SumLaws
+pub mod BlockLaws
+pub mod Shares
 pub mod Content

@@ -1,5 +1,1 @@
-pub mod Lists
-pub mod Elements
-pub mod Polynomial
-pub mod Step
 pub mod Outcome

@@ -1,43 +1,17 @@
--- What the slices mean, and what this crate writes.
+-- What this crate writes.
 use mathlib.Core.Path.{_≡_}
-use mathlib.Core.Bool.{Bool, cond}
+use mathlib.Core.Bool.{cond}
 use mathlib.Core.List.{List, _++_}
-use Prim.Native.Nat.{ℕ, _+_, _*_, _<_}
-use lib.ListN.{length, getD}
+use Prim.Native.Nat.{ℕ, _+_, _<_}
 use Rattle.lists.specs.Words.{concat}
 use Rattle.field.specs.declared.Level.{Level}
 use Rattle.field.specs.Binary.{xor}
-use Rattle.field.specs.Level.{K, embed}
-use Rattle.field.specs.Word.{odd, small, words}
-use Rattle.rows.specs.Lists.{tab}
-use Rattle.rows.specs.Elements.{el, Within}
-use Rattle.rows.specs.Polynomial.{digit, column, check, columnValue, checkValue}
-
--- the lent key: H, m rows of n words, and x, all within the limit
-pub record LentKey (l : Level) (n m : ℕ) (h x : List ℕ) : Type 0 where
-  pub h-length : length h ≡ n * m
-  pub x-length : length x ≡ n
-  pub h-within : Within l h
-  pub x-within : Within l x
-
--- word j of x as an element of K
-abbrev pub smallOf : (l : Level) → List ℕ → ℕ → K l .Carrier
-smallOf l x j = embed l .map (small l (getD x j 0))
-
--- H(e,i): "row after row"
-abbrev pub entryOf : (l : Level) → ℕ → List ℕ → ℕ → ℕ → K l .Carrier
-entryOf l n h e i = smallOf l h (n * e + i)
-
--- w(i,k): "digit k of position i, .. highest digit first"
-abbrev pub digitOf : ℕ → List ℕ → ℕ → ℕ → Bool
-digitOf d positions i = digit d (getD positions i 0)
-
--- u(i,k) and t(i,k), v(i,k) and q(i,k): "row after row, k = 0 first"
-abbrev pub bitOf : ℕ → List ℕ → ℕ → ℕ → Bool
-bitOf d bits i k = odd (getD bits (d * i + k) 0)
-
-abbrev pub elementOf : (l : Level) → ℕ → List ℕ → ℕ → ℕ → K l .Carrier
-elementOf l d s i k = el l s (d * i + k)
+use Rattle.field.specs.Level.{K}
+use Rattle.field.specs.Word.{words}
+use Rattle.row.specs.Lists.{tab}
+use Rattle.row.specs.Elements.{el}
+use Rattle.row.specs.Polynomial.{column, check, columnValue, checkValue}
+use Rattle.row.specs.Lent.{smallOf, entryOf, digitOf, bitOf, elementOf}
 
 -- the words of the n + m polynomials of d + 1 coefficients
 unfoldable pub polynomials : (l : Level) (n m d : ℕ) (h x positions v : List ℕ) → List ℕ

@@ -1,35 +1,24 @@
-// The work of constraints and values on lent slices: a row's polynomials and values, and the sums of all rows.
+// The work of constraints and values on lent slices: the polynomials and values of all rows, and the masked witness.
 // No branch and no index depends on positions, offsets, bits or numbers.
 ghost use mathlib.Core.Path.{_≡_};
 ghost use mathlib.Core.Bool.{cond};
 ghost use mathlib.Core.List.{List};
 ghost use Prim.Native.Nat.{ℕ, _+_, _*_, _^_, _<_, _≤_};
-ghost use lib.ListN.{length, getD, replicate};
+ghost use lib.ListN.{length, getD};
 ghost use Rattle.lists.specs.Words.{put};
 ghost use Rattle.field.specs.Binary.{xor};
 ghost use Rattle.field.specs.Level.{levelAt, K};
 ghost use Rattle.field.specs.Word.{odd};
-ghost use Rattle.rows.specs.Lists.{tab};
-ghost use Rattle.rows.specs.Elements.{el, Fits, Words, Bits, valueOf, Held};
-ghost use Rattle.rows.specs.Polynomial.{digit, z, value};
-ghost use Rattle.rows.specs.Step.{Step, Shared};
-ghost use Rattle.rows.specs.Outcome.{LentKey, smallOf, entryOf, polynomials, Tops, values, maskedWitness};
+ghost use Rattle.row.specs.Lists.{tab};
+ghost use Rattle.row.specs.Elements.{el, Fits, Words, Bits, valueOf, Held};
+ghost use Rattle.row.specs.Polynomial.{digit, z, value};
+ghost use Rattle.row.specs.Step.{Step, Shared};
+ghost use Rattle.row.specs.Lent.{LentKey, smallOf, entryOf};
+ghost use Rattle.rows.specs.Outcome.{polynomials, Tops, values, maskedWitness};
 use field::Element;
-
-pub mod elements;
-pub mod products;
-pub mod sums;
-
-// Fills s with zeros.
-pub fn clear(s: &mut [u16])
-    ensures { λ _. ⌜ now (s .exit) ≡ replicate (length (now (s .entry))) 0 ⌝ }
-{
-    let mut j: usize = 0;
-    while j < s.len() {
-        s[j] = 0;
-        j += 1;
-    }
-}
+use row::elements;
+use row::products;
+use row::sums;
 
 // Adds row i's share to the n + m polynomials. The row's offsets stand from element at on; work takes its products.
 fn row(
@@ -71,8 +60,8 @@ pub fn polynomials(
     requires { ⌜ (length (now positions) ≡ n) × (length (now offsets) ≡ levelAt level .coordinates * (d * n)) × (length (now dst) ≡ levelAt level .coordinates * ((d + 1) * (n + m))) × Fits (levelAt level) ((d + 1) * 2 ^ d) (length (now work)) ⌝ }
     ensures { λ _. ⌜ now (dst .exit) ≡ polynomials (levelAt level) n m d (now (h .entry)) (now (x .entry)) (now (positions .entry)) (now (offsets .entry)) ⌝ }
 {
-    clear(dst);
-    clear(work);
+    row::clear(dst);
+    row::clear(work);
     let mut at: usize = 0;
     let mut i: usize = 0;
     while i < n {
@@ -121,8 +110,8 @@ pub fn tops(
     requires { ⌜ LentKey (levelAt level) n m (now h) (now x) × (d < 64) × (n ≤ 2 ^ d) × (length (now positions) ≡ n) × Fits (levelAt level) (n + m) (length (now dst)) × Fits (levelAt level) (2 ^ d) (length (now work)) ⌝ }
     ensures { λ _. ⌜ Step (levelAt level) (now (dst .entry)) (now (dst .exit)) (λ f g. (v : List ℕ) → Tops (levelAt level) n m d (now (h .entry)) (now (x .entry)) (now (positions .entry)) v g) ⌝ }
 {
-    clear(dst);
-    clear(work);
+    row::clear(dst);
+    row::clear(work);
     let mut i: usize = 0;
     while i < n {
         let position = positions[i] as u64;
@@ -174,8 +163,8 @@ pub fn values(
     requires { ⌜ (length (now bits) ≡ d * n) × (length (now numbers) ≡ levelAt level .coordinates * (d * n)) × (length (now delta) ≡ levelAt level .coordinates) × (length (now dst) ≡ levelAt level .coordinates * (n + m)) × Fits (levelAt level) (2 ^ d) (length (now work)) ⌝ }
     ensures { λ _. ⌜ now (dst .exit) ≡ values (levelAt level) n m d (now (h .entry)) (now (x .entry)) (now (bits .entry)) (now (numbers .entry)) (now (delta .entry)) ⌝ }
 {
-    clear(dst);
-    clear(work);
+    row::clear(dst);
+    row::clear(work);
     let challenge = elements::get(delta, 0, level);
     let mut at: usize = 0;
     let mut i: usize = 0;

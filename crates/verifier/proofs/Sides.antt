@@ -9,9 +9,9 @@ use Rattle.lists.proofs.Words.{part-whole}
 use Rattle.field.specs.declared.Level.{Level}
 use Rattle.field.specs.Level.{K}
 use Rattle.field.specs.Word.{element, isZero, equal}
-use Rattle.rows.specs.Elements.{el, Bits}
-use Rattle.rows.specs.Polynomial.{columnValue, checkValue}
-use Rattle.rows.specs.Outcome.{smallOf, entryOf, bitOf, elementOf}
+use Rattle.row.specs.Elements.{el, Bits}
+use Rattle.row.specs.Polynomial.{columnValue, checkValue}
+use Rattle.row.specs.Lent.{smallOf, entryOf, bitOf, elementOf}
 use Rattle.key.specs.Key.{degree}
 use Rattle.constraints.specs.Graded.{sigma, eval, pow}
 use Rattle.constraints.specs.GradedLaws.{summed-cong}

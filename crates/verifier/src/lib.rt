@@ -14,7 +14,7 @@ use folding::values;
 use key::Key;
 use refusal::Answer;
 use refusal::Verdict;
-use rows::elements;
+use row::elements;
 
 // Words of work space: an element for each of 2^d columns, at the widest level.
 const COLUMNS: usize = 768;

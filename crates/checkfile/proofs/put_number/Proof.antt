@@ -3,7 +3,7 @@ use native.Mathlib.Omega.{arith}
 use mathlib.Core.Path.{_≡_, refl, sym, _∙_}
 use lib.ListN.{length, take, drop, length-drop}
 use lib.Seq.{take-all}
-use Rattle.rows.proofs.ListLaws.{blanks}
+use Rattle.row.proofs.ListLaws.{blanks}
 use Rattle.checkfile.specs.Line.{decimal}
 use Rattle.checkfile.proofs.Decimals.{Written, first-digit, some-place, next-digit, last-digit}
 use borrow.Author.Needs.{needs}

@@ -4,9 +4,9 @@ use native.Mathlib.Omega.{arith}
 use lib.ListN.{length}
 use Rattle.field.specs.Level.{levelAt, K}
 use Rattle.field.specs.declared.Level.{Level}
-use Rattle.rows.specs.Elements.{el, Words}
-use Rattle.rows.specs.Step.{Added}
-use Rattle.rows.proofs.ElementLaws.{fits-le}
+use Rattle.row.specs.Elements.{el, Words}
+use Rattle.row.specs.Step.{Added}
+use Rattle.row.proofs.ElementLaws.{fits-le}
 use Rattle.checkzero.specs.CheckZero.{mask}
 use Rattle.checkzero.proofs.Laws.{mask-none, mask-more}
 use Rattle.checkzero.proofs.add_masks.Statement.{statement}

@@ -5,8 +5,8 @@ use borrow.Author.Needs.{needs}
 use Rattle.field.specs.Packed.{Holds, Tabulates}
 use Rattle.field.specs.Level.{levelAt, K}
 use Rattle.field.specs.declared.Level.{Level}
-use Rattle.rows.specs.Elements.{el, valueOf}
-use Rattle.rows.proofs.ElementLaws.{fits-le}
+use Rattle.row.specs.Elements.{el, valueOf}
+use Rattle.row.proofs.ElementLaws.{fits-le}
 use Rattle.checkzero.proofs.Laws.{above, above-none, above-more, above-all}
 use Rattle.checkzero.proofs.evaluate.Statement.{statement}
 use Rattle.checkzero.proofs.evaluate.Tie as tie

@@ -1,7 +1,7 @@
 use mathlib.Core.Path.{subst}
 use Rattle.field.specs.Packed.{Holds}
 use Rattle.field.specs.Level.{levelAt, K}
-use Rattle.rows.specs.Elements.{el, valueOf}
+use Rattle.row.specs.Elements.{el, valueOf}
 use Rattle.checkzero.proofs.Laws.{mask-evaluated}
 use Rattle.checkzero.proofs.mask_sum.Statement.{statement}
 use Rattle.checkzero.proofs.mask_sum.Tie as tie

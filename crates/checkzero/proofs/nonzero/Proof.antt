@@ -8,8 +8,8 @@ use Rattle.lists.proofs.Lent.{or-none}
 use Rattle.field.specs.Word.{isZero}
 use Rattle.field.specs.Level.{levelAt}
 use Rattle.field.specs.declared.Level.{Level}
-use Rattle.rows.specs.Elements.{el}
-use Rattle.rows.proofs.ElementLaws.{fits-le}
+use Rattle.row.specs.Elements.{el}
+use Rattle.row.proofs.ElementLaws.{fits-le}
 use Rattle.checkzero.specs.Slices.{every}
 use Rattle.checkzero.proofs.Laws.{every-none, every-more}
 use Rattle.checkzero.proofs.nonzero.Statement.{statement}

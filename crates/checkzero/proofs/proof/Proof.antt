@@ -5,8 +5,8 @@ use borrow.Author.Needs.{needs}
 use lib.ListN.{length}
 use Rattle.field.specs.Level.{levelAt, K}
 use Rattle.field.specs.declared.Level.{Level}
-use Rattle.rows.specs.Elements.{el, Fits}
-use Rattle.rows.proofs.ElementLaws.{fits-le, fits-all}
+use Rattle.row.specs.Elements.{el, Fits}
+use Rattle.row.proofs.ElementLaws.{fits-le, fits-all}
 use Rattle.checkzero.specs.CheckZero.{mask}
 use Rattle.checkzero.specs.Steps.{weightedAt}
 use Rattle.checkzero.proofs.Laws.{written}

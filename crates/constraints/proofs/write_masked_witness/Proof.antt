@@ -1,5 +1,5 @@
 use Rattle.field.specs.Level.{levelAt}
-use Rattle.rows.specs.Elements.{Bits}
+use Rattle.row.specs.Elements.{Bits}
 use Rattle.rows.specs.Outcome as O
 use Rattle.key.specs.Key.{degree}
 use Rattle.constraints.proofs.Fine.{room}

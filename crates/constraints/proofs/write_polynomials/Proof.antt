@@ -1,8 +1,8 @@
 use Rattle.field.specs.Level.{levelAt}
 use Rattle.field.proofs.Fields.{bounded}
-use Rattle.rows.specs.Elements.{Fits, Words}
+use Rattle.row.specs.Elements.{Fits, Words}
+use Rattle.row.specs.Lent.{LentKey}
 use Rattle.rows.specs.Outcome as O
-use Rattle.rows.specs.Outcome.{LentKey}
 use Rattle.constraints.proofs.Fine.{room, elements-columns, polynomials-columns}
 use Rattle.constraints.proofs.Link.{polynomials-written}
 use Prim.Native.Nat.{_+_, _-_, _*_, _^_, _≤_, _<_}

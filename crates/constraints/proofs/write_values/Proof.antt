@@ -1,8 +1,8 @@
 use Rattle.field.specs.Level.{levelAt}
 use Rattle.field.proofs.Fields.{bounded}
-use Rattle.rows.specs.Elements.{Fits, Words, Bits}
+use Rattle.row.specs.Elements.{Fits, Words, Bits}
+use Rattle.row.specs.Lent.{LentKey}
 use Rattle.rows.specs.Outcome as O
-use Rattle.rows.specs.Outcome.{LentKey}
 use Rattle.key.specs.Key.{degree}
 use Rattle.constraints.proofs.Fine.{room, elements-columns}
 use Rattle.constraints.proofs.Link.{values-written}

@@ -4,10 +4,11 @@ use native.Mathlib.Omega.{arith}
 use lib.ListN.{length}
 use Rattle.field.specs.Level.{levelAt}
 use Rattle.field.proofs.Fields.{bounded}
-use Rattle.rows.specs.Elements.{el, Fits}
-use Rattle.rows.specs.Outcome.{LentKey, Tops}
-use Rattle.rows.proofs.ElementLaws.{fits-le}
-use Rattle.rows.proofs.NumberLaws.{many}
+use Rattle.row.specs.Elements.{el, Fits}
+use Rattle.row.specs.Lent.{LentKey}
+use Rattle.row.proofs.ElementLaws.{fits-le}
+use Rattle.row.proofs.NumberLaws.{many}
+use Rattle.rows.specs.Outcome.{Tops}
 use Rattle.key.specs.Key.{degree}
 use Rattle.constraints.proofs.Fine.{Room, room}
 use Rattle.prover.proofs.Fine.{elements-room}

@@ -12,9 +12,9 @@ use Rattle.field.specs.Level.{levelAt, K}
 use Rattle.field.specs.Word.{words}
 use Rattle.field.proofs.Fields.{bounded}
 use Rattle.field.proofs.Tested.{fine, above}
-use Rattle.rows.specs.Elements.{el, Words, Fits}
-use Rattle.rows.specs.Outcome.{LentKey}
-use Rattle.rows.proofs.ElementLaws.{fits-le, fits-all}
+use Rattle.row.specs.Elements.{el, Words, Fits}
+use Rattle.row.specs.Lent.{LentKey}
+use Rattle.row.proofs.ElementLaws.{fits-le, fits-all}
 use Rattle.key.specs.Key.{degree}
 use Rattle.key.proofs.Sized.{degree-some}
 use Rattle.constraints.specs.Slices.{witnessOf}

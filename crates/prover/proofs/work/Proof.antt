@@ -1,6 +1,6 @@
 use mathlib.Core.Path.{refl}
 use borrow.Author.Needs.{needs}
-use Rattle.rows.proofs.ListLaws.{blanks-length}
+use Rattle.row.proofs.ListLaws.{blanks-length}
 use Rattle.prover.proofs.work.Statement.{statement}
 use Rattle.prover.proofs.work.Tie as tie
 

@@ -1,21 +1,31 @@
 use mathlib.Core.List.{List}
 use mathlib.Core.Bool.{cond}
 use mathlib.Core.Path.{ap₂, _≡_, refl, sym, ap, _∙_}
-use Prim.Native.Nat.{ℕ, _+_, _-_, _/_, _%_, _^_, _≤_, _<_}
+use Prim.Native.Nat.{ℕ, zero, suc, _+_, _-_, _/_, _%_, _^_, _≤_, _<_}
 use native.Mathlib.Numerals.{add-one}
 use native.Mathlib.Omega.{arith}
 use borrow.Author.Needs.{needs}
+use lib.Bits.{bitXor, xor-zero-l, xor-zero-r, xor-self}
 use lib.Seq.{paste, paste-zero, paste-suc}
 use lib.ListN.{length-set, length, getD, set}
 use Rattle.lists.proofs.Words.{put-pasted}
 use Rattle.field.specs.Word.{odd}
 use Rattle.field.specs.Binary.{xor}
-use Rattle.rows.specs.Polynomial.{digit}
-use Rattle.rows.specs.Lists.{tab}
-use Rattle.rows.proofs.NumberLaws.{xor-word}
-use Rattle.rows.proofs.ListLaws.{tab-length, tab-at}
+use Rattle.row.specs.Polynomial.{digit}
+use Rattle.row.specs.Lists.{tab}
+use Rattle.row.proofs.ListLaws.{tab-length, tab-at}
 use Rattle.rows.proofs.masked_row.Statement.{statement}
 use Rattle.rows.proofs.masked_row.Tie as tie
+
+-- exclusive or of two bits as words
+xor-word : (a b : ℕ) → a < 2 → b < 2 → bitXor a b ≡ cond (xor (odd a) (odd b)) 1 0
+xor-word zero zero h l = xor-zero-l 0
+xor-word zero (suc zero) h l = xor-zero-l 1
+xor-word (suc zero) zero h l = xor-zero-r 1
+xor-word (suc zero) (suc zero) h l = xor-self 1
+xor-word zero (suc (suc b)) h l = absurd (omega arith)
+xor-word (suc zero) (suc (suc b)) h l = absurd (omega arith)
+xor-word (suc (suc a)) b h l = absurd (omega arith)
 
 -- the words of the row
 abbrev word : (u : List ℕ) (at position d k : ℕ) → ℕ

@@ -8,11 +8,12 @@ use lib.ListN.{length, getD, drop}
 use Rattle.lists.specs.Words.{put, concat}
 use Rattle.field.specs.Word.{odd}
 use Rattle.field.specs.Binary.{xor}
-use Rattle.rows.specs.Polynomial.{digit}
+use Rattle.row.specs.Polynomial.{digit}
+use Rattle.row.specs.Lists.{tab}
+use Rattle.row.proofs.NumberLaws.{row-le, row-next}
+use Rattle.row.proofs.ListLaws.{tab-length}
 use Rattle.rows.specs.Outcome.{maskedRow, maskedWitness}
-use Rattle.rows.specs.Lists.{tab}
-use Rattle.rows.proofs.NumberLaws.{row-le, row-next}
-use Rattle.rows.proofs.ListLaws.{tab-length, built-none, built-more, built-all}
+use Rattle.rows.proofs.BlockLaws.{built-none, built-more, built-all}
 use Rattle.rows.proofs.masked_witness.Statement.{statement}
 use Rattle.rows.proofs.masked_witness.Tie as tie
 

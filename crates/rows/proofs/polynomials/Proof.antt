@@ -6,15 +6,16 @@ use borrow.Author.Needs.{needs}
 use lib.ListN.{length}
 use Rattle.field.specs.Level.{levelAt, K}
 use Rattle.field.specs.declared.Level.{Level}
-use Rattle.rows.specs.Outcome.{smallOf, entryOf, digitOf, elementOf, polynomials}
-use Rattle.rows.specs.Step.{Step, Shared, AddedDown}
-use Rattle.rows.specs.Polynomial.{z, column, check}
-use Rattle.rows.specs.Elements.{el, Fits, Words}
+use Rattle.row.specs.Lent.{smallOf, entryOf, digitOf, elementOf}
+use Rattle.row.specs.Step.{Step, Shared, AddedDown}
+use Rattle.row.specs.Polynomial.{z, column, check}
+use Rattle.row.specs.Elements.{el, Fits, Words}
+use Rattle.row.proofs.ElementLaws.{fits-le, fits-all, holds-value, holds-held, cleared-words, cleared-el}
+use Rattle.row.proofs.NumberLaws.{row-le, row-next}
+use Rattle.row.proofs.ListLaws.{blanks-length}
+use Rattle.rows.specs.Outcome.{polynomials}
 use Rattle.rows.proofs.Content.{rows-content}
-use Rattle.rows.proofs.SumLaws.{Rows, rows-none, rows-more}
-use Rattle.rows.proofs.ElementLaws.{fits-le, fits-all, holds-value, holds-held, cleared-words, cleared-el}
-use Rattle.rows.proofs.NumberLaws.{row-le, row-next}
-use Rattle.rows.proofs.ListLaws.{blanks-length}
+use Rattle.rows.proofs.Shares.{Rows, rows-none, rows-more}
 use Rattle.rows.proofs.polynomials.Statement.{statement}
 use Rattle.rows.proofs.polynomials.Tie as tie
 

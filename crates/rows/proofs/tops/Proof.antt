@@ -6,14 +6,14 @@ use borrow.Author.Needs.{needs}
 use lib.ListN.{length}
 use Rattle.field.specs.Level.{levelAt, K}
 use Rattle.field.specs.declared.Level.{Level}
-use Rattle.rows.specs.Outcome.{smallOf, entryOf, digitOf, elementOf}
-use Rattle.rows.specs.Step.{AddedDown}
-use Rattle.rows.specs.Polynomial.{sum, monomial, z, column, check}
-use Rattle.rows.specs.Elements.{el, Fits, Words}
+use Rattle.row.specs.Lent.{smallOf, entryOf, digitOf, elementOf}
+use Rattle.row.specs.Step.{AddedDown}
+use Rattle.row.specs.Polynomial.{sum, monomial, z, column, check}
+use Rattle.row.specs.Elements.{el, Fits, Words}
+use Rattle.row.proofs.ElementLaws.{fits-le, holds-value, holds-held, cleared-words, cleared-el}
+use Rattle.row.proofs.ListLaws.{blanks-length}
 use Rattle.rows.proofs.Content.{monomial-same}
-use Rattle.rows.proofs.SumLaws.{Rows, rows-none, rows-more, single-added, single-other}
-use Rattle.rows.proofs.ElementLaws.{fits-le, holds-value, holds-held, cleared-words, cleared-el}
-use Rattle.rows.proofs.ListLaws.{blanks-length}
+use Rattle.rows.proofs.Shares.{Rows, rows-none, rows-more, single-added, single-other}
 use Rattle.rows.proofs.tops.Statement.{statement}
 use Rattle.rows.proofs.tops.Tie as tie
 

@@ -5,11 +5,11 @@ use borrow.Author.Needs.{needs}
 use lib.ListN.{getD}
 use Rattle.field.specs.Word.{odd}
 use Rattle.field.specs.Level.{levelAt, K}
-use Rattle.rows.specs.Outcome.{smallOf, entryOf}
-use Rattle.rows.specs.Polynomial.{value}
-use Rattle.rows.specs.Elements.{el, valueOf}
-use Rattle.rows.proofs.SumLaws.{shared-same}
-use Rattle.rows.proofs.ElementLaws.{fits-le}
+use Rattle.row.specs.Lent.{smallOf, entryOf}
+use Rattle.row.specs.Polynomial.{value}
+use Rattle.row.specs.Elements.{el, valueOf}
+use Rattle.row.proofs.ElementLaws.{fits-le}
+use Rattle.rows.proofs.Shares.{shared-same}
 use Rattle.rows.proofs.value_row.Statement.{statement}
 use Rattle.rows.proofs.value_row.Tie as tie
 

@@ -9,15 +9,16 @@ use Rattle.lists.specs.Words.{concat}
 use Rattle.field.specs.Word.{odd, words}
 use Rattle.field.specs.Level.{levelAt, K}
 use Rattle.field.specs.declared.Level.{Level}
-use Rattle.rows.specs.Outcome.{smallOf, entryOf, bitOf, elementOf, values}
-use Rattle.rows.specs.Step.{Step, Shared, AddedDown}
-use Rattle.rows.specs.Polynomial.{value, raise, monomial, columnValue, checkValue}
-use Rattle.rows.specs.Elements.{el, Fits, Words, valueOf, Held}
+use Rattle.row.specs.Lent.{smallOf, entryOf, bitOf, elementOf}
+use Rattle.row.specs.Step.{Step, Shared, AddedDown}
+use Rattle.row.specs.Polynomial.{value, raise, monomial, columnValue, checkValue}
+use Rattle.row.specs.Elements.{el, Fits, Words, valueOf, Held}
+use Rattle.row.proofs.ElementLaws.{fits-le, fits-all, holds-value, holds-held, cleared-words, cleared-el}
+use Rattle.row.proofs.NumberLaws.{row-le, row-next}
+use Rattle.row.proofs.ListLaws.{blanks-length}
+use Rattle.rows.specs.Outcome.{values}
 use Rattle.rows.proofs.Content.{rows-content}
-use Rattle.rows.proofs.SumLaws.{Rows, rows-none, rows-more}
-use Rattle.rows.proofs.ElementLaws.{fits-le, fits-all, holds-value, holds-held, cleared-words, cleared-el}
-use Rattle.rows.proofs.NumberLaws.{row-le, row-next}
-use Rattle.rows.proofs.ListLaws.{blanks-length}
+use Rattle.rows.proofs.Shares.{Rows, rows-none, rows-more}
 use Rattle.rows.proofs.values.Statement.{statement}
 use Rattle.rows.proofs.values.Tie as tie
 

@@ -6,9 +6,9 @@ use lib.ListN.{length}
 use borrow.Author.Needs.{needs}
 use Rattle.field.specs.Level.{levelAt, K}
 use Rattle.field.proofs.Fields.{bounded}
-use Rattle.rows.specs.Elements.{el, Words, Bits, Fits, valueOf}
-use Rattle.rows.specs.Outcome.{LentKey}
-use Rattle.rows.proofs.ElementLaws.{fits-le, fits-all, holds-value, holds-held}
+use Rattle.row.specs.Elements.{el, Words, Bits, Fits, valueOf}
+use Rattle.row.specs.Lent.{LentKey}
+use Rattle.row.proofs.ElementLaws.{fits-le, fits-all, holds-value, holds-held}
 use Rattle.key.specs.Key.{degree}
 use Rattle.constraints.proofs.Fine.{room, elements-columns}
 use Rattle.checkzero.specs.CheckZero.{maskSum}

@@ -1,5 +1,5 @@
 use borrow.Author.Needs.{needs}
-use Rattle.rows.proofs.ListLaws.{blanks-length}
+use Rattle.row.proofs.ListLaws.{blanks-length}
 use Rattle.verifier.proofs.work.Statement.{statement}
 use Rattle.verifier.proofs.work.Tie as tie
 

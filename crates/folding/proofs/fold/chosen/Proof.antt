@@ -5,7 +5,7 @@ use Rattle.field.specs.Binary.{bit}
 use Rattle.field.specs.Packed.{Holds}
 use Rattle.field.specs.Word.{odd}
 use Rattle.field.specs.Level.{levelAt, K}
-use Rattle.rows.proofs.NumberLaws.{odd-not}
+use Rattle.row.proofs.NumberLaws.{odd-not}
 use Rattle.folding.proofs.fold.chosen.Statement.{statement}
 use Rattle.folding.proofs.fold.chosen.Tie as tie
 

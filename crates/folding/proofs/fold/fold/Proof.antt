@@ -8,10 +8,10 @@ use lib.ListN.{length}
 use Rattle.field.specs.Packed.{Tabulates}
 use Rattle.field.specs.Level.{levelAt, K}
 use Rattle.field.specs.declared.Level.{Level}
-use Rattle.rows.specs.Elements.{el, Words}
-use Rattle.rows.specs.Polynomial.{digit}
-use Rattle.rows.proofs.ElementLaws.{fits-le}
-use Rattle.rows.proofs.NumberLaws.{room, digit-place}
+use Rattle.row.specs.Elements.{el, Words}
+use Rattle.row.specs.Polynomial.{digit}
+use Rattle.row.proofs.ElementLaws.{fits-le}
+use Rattle.row.proofs.NumberLaws.{room, digit-place}
 use Rattle.folding.specs.Steps.{Halved}
 use Rattle.folding.proofs.FoldLaws.{folded, folded-none, folded-more, folded-all}
 use Rattle.folding.proofs.fold.fold.Statement.{statement}

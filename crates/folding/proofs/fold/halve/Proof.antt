@@ -7,9 +7,9 @@ use Rattle.field.specs.Packed.{Tabulates}
 use Rattle.field.specs.Word.{odd}
 use Rattle.field.specs.Level.{levelAt, K}
 use Rattle.field.specs.declared.Level.{Level}
-use Rattle.rows.specs.Elements.{el, Words}
-use Rattle.rows.proofs.ElementLaws.{fits-le}
-use Rattle.rows.proofs.NumberLaws.{row-le, row-next}
+use Rattle.row.specs.Elements.{el, Words}
+use Rattle.row.proofs.ElementLaws.{fits-le}
+use Rattle.row.proofs.NumberLaws.{row-le, row-next}
 use Rattle.folding.specs.Steps.{Joined, Halved}
 use Rattle.folding.proofs.FoldLaws.{halved-none, halved-more}
 use Rattle.folding.proofs.fold.halve.Statement.{statement}

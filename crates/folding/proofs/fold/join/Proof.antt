@@ -9,9 +9,9 @@ use Rattle.field.specs.Packed.{Holds, Tabulates}
 use Rattle.field.specs.Word.{odd}
 use Rattle.field.specs.Level.{levelAt, K}
 use Rattle.field.specs.declared.Level.{Level}
-use Rattle.rows.specs.Elements.{el, Words, Fits}
-use Rattle.rows.specs.Step.{Step, Put}
-use Rattle.rows.proofs.ElementLaws.{fits-le}
+use Rattle.row.specs.Elements.{el, Words, Fits}
+use Rattle.row.specs.Step.{Step, Put}
+use Rattle.row.proofs.ElementLaws.{fits-le}
 use Rattle.folding.specs.Steps.{Joined}
 use Rattle.folding.proofs.FoldLaws.{carried, carried-none, carried-more, joined-none, joined-first, joined-second, joined-more, joined-low, joined-top}
 use Rattle.folding.proofs.fold.join.Statement.{statement}

@@ -6,11 +6,11 @@ use lib.ListN.{length}
 use Rattle.field.specs.Packed.{Tabulates}
 use Rattle.field.specs.Level.{levelAt, K}
 use Rattle.field.specs.declared.Level.{Level}
-use Rattle.rows.specs.Elements.{el, Words}
-use Rattle.rows.specs.Outcome.{smallOf}
-use Rattle.rows.specs.Step.{Step, Put, Added}
-use Rattle.rows.proofs.SumLaws.{added-none, added-more}
-use Rattle.rows.proofs.ElementLaws.{fits-le}
+use Rattle.row.specs.Elements.{el, Words}
+use Rattle.row.specs.Lent.{smallOf}
+use Rattle.row.specs.Step.{Step, Put, Added}
+use Rattle.row.proofs.SumLaws.{added-none, added-more}
+use Rattle.row.proofs.ElementLaws.{fits-le}
 use Rattle.folding.proofs.leaves.add_row.Statement.{statement}
 use Rattle.folding.proofs.leaves.add_row.Tie as tie
 

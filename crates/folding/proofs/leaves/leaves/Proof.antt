@@ -7,11 +7,11 @@ use lib.ListN.{length}
 use Rattle.field.specs.Packed.{Tabulates}
 use Rattle.field.specs.Level.{levelAt, K}
 use Rattle.field.specs.declared.Level.{Level}
-use Rattle.rows.specs.Elements.{el, Words, valueOf, Held}
-use Rattle.rows.specs.Outcome.{smallOf}
-use Rattle.rows.specs.Step.{Put}
-use Rattle.rows.proofs.ElementLaws.{fits-le, holds-value, holds-held}
-use Rattle.rows.proofs.NumberLaws.{row-le, row-next}
+use Rattle.row.specs.Elements.{el, Words, valueOf, Held}
+use Rattle.row.specs.Lent.{smallOf}
+use Rattle.row.specs.Step.{Put}
+use Rattle.row.proofs.ElementLaws.{fits-le, holds-value, holds-held}
+use Rattle.row.proofs.NumberLaws.{row-le, row-next}
 use Rattle.folding.specs.Weights.{leaf}
 use Rattle.folding.specs.Steps.{Leaves}
 use Rattle.folding.proofs.LeafLaws.{leaves-none, leaves-more}

@@ -7,12 +7,12 @@ use lib.ListN.{length}
 use Rattle.field.specs.Packed.{Tabulates}
 use Rattle.field.specs.Level.{levelAt, K}
 use Rattle.field.specs.declared.Level.{Level}
-use Rattle.rows.specs.Elements.{el, Words}
-use Rattle.rows.specs.Outcome.{smallOf, entryOf}
-use Rattle.rows.specs.Step.{Added}
-use Rattle.rows.proofs.ElementLaws.{fits-le, cleared-words, cleared-el}
-use Rattle.rows.proofs.ListLaws.{blanks-length}
-use Rattle.rows.proofs.NumberLaws.{row-le, row-next}
+use Rattle.row.specs.Elements.{el, Words}
+use Rattle.row.specs.Lent.{smallOf, entryOf}
+use Rattle.row.specs.Step.{Added}
+use Rattle.row.proofs.ElementLaws.{fits-le, cleared-words, cleared-el}
+use Rattle.row.proofs.ListLaws.{blanks-length}
+use Rattle.row.proofs.NumberLaws.{row-le, row-next}
 use Rattle.folding.specs.Weights.{multiplier}
 use Rattle.folding.proofs.LeafLaws.{multiplier-none, multiplier-more}
 use Rattle.folding.proofs.leaves.multipliers.Statement.{statement}

@@ -3,9 +3,9 @@ use Prim.Native.Nat.{_+_}
 use native.Mathlib.Omega.{arith}
 use borrow.Author.Needs.{needs}
 use Rattle.field.specs.Level.{levelAt, K}
-use Rattle.rows.specs.Elements.{el}
-use Rattle.rows.specs.Outcome.{smallOf}
-use Rattle.rows.proofs.ElementLaws.{fits-le}
+use Rattle.row.specs.Elements.{el}
+use Rattle.row.specs.Lent.{smallOf}
+use Rattle.row.proofs.ElementLaws.{fits-le}
 use Rattle.folding.specs.Weights.{leaf}
 use Rattle.folding.proofs.leaves.weight.Statement.{statement}
 use Rattle.folding.proofs.leaves.weight.Tie as tie

@@ -6,12 +6,12 @@ use lib.ListN.{length}
 use Rattle.field.specs.Level.{levelAt, K}
 use Rattle.field.specs.Packed.{Tabulates}
 use Rattle.field.specs.declared.Level.{Level}
-use Rattle.rows.specs.Elements.{el, Fits, valueOf}
-use Rattle.rows.specs.Outcome.{smallOf}
-use Rattle.rows.specs.Polynomial.{sum, digit, z}
-use Rattle.rows.specs.Step.{Step}
-use Rattle.rows.proofs.ElementLaws.{fits-le}
-use Rattle.rows.proofs.NumberLaws.{many, pos, room-one}
+use Rattle.row.specs.Elements.{el, Fits, valueOf}
+use Rattle.row.specs.Lent.{smallOf}
+use Rattle.row.specs.Polynomial.{sum, digit, z}
+use Rattle.row.specs.Step.{Step}
+use Rattle.row.proofs.ElementLaws.{fits-le}
+use Rattle.row.proofs.NumberLaws.{many, pos, room-one}
 use Rattle.folding.specs.Weights.{leaf}
 use Rattle.folding.specs.Steps.{Leaves}
 use Rattle.folding.proofs.WeightLaws.{added-same, leaves-sum}

@@ -6,12 +6,12 @@ use native.Mathlib.Omega.{arith}
 use lib.ListN.{length}
 use Rattle.field.specs.Level.{levelAt, K}
 use Rattle.field.specs.declared.Level.{Level}
-use Rattle.rows.specs.Elements.{el, Words, valueOf}
-use Rattle.rows.specs.Outcome.{smallOf, digitOf, elementOf}
-use Rattle.rows.specs.Polynomial.{sum, z}
-use Rattle.rows.specs.Step.{Added}
-use Rattle.rows.proofs.ElementLaws.{fits-le, holds-value, holds-held}
-use Rattle.rows.proofs.NumberLaws.{row-le, row-next}
+use Rattle.row.specs.Elements.{el, Words, valueOf}
+use Rattle.row.specs.Lent.{smallOf, digitOf, elementOf}
+use Rattle.row.specs.Polynomial.{sum, z}
+use Rattle.row.specs.Step.{Added}
+use Rattle.row.proofs.ElementLaws.{fits-le, holds-value, holds-held}
+use Rattle.row.proofs.NumberLaws.{row-le, row-next}
 use Rattle.folding.specs.Weights.{leaf}
 use Rattle.folding.proofs.WeightLaws.{shares-none, shares-more}
 use Rattle.folding.proofs.polynomials.shares.Statement.{statement}

@@ -6,11 +6,11 @@ use lib.ListN.{length}
 use Rattle.field.specs.Level.{levelAt, K}
 use Rattle.field.specs.RingLaws.{zero-add}
 use Rattle.field.specs.declared.Level.{Level}
-use Rattle.rows.specs.Elements.{el, Fits}
-use Rattle.rows.specs.Outcome.{smallOf, entryOf, digitOf, elementOf}
-use Rattle.rows.specs.Polynomial.{sum, z}
-use Rattle.rows.proofs.ElementLaws.{fits-le, fits-all, cleared-words, cleared-el}
-use Rattle.rows.proofs.ListLaws.{blanks-length}
+use Rattle.row.specs.Elements.{el, Fits}
+use Rattle.row.specs.Lent.{smallOf, entryOf, digitOf, elementOf}
+use Rattle.row.specs.Polynomial.{sum, z}
+use Rattle.row.proofs.ElementLaws.{fits-le, fits-all, cleared-words, cleared-el}
+use Rattle.row.proofs.ListLaws.{blanks-length}
 use Rattle.folding.specs.Weights.{leaf}
 use Rattle.folding.proofs.WeightLaws.{weighted-polynomials}
 use Rattle.folding.proofs.polynomials.weighted.Statement.{statement}

@@ -8,12 +8,12 @@ use Rattle.field.specs.Packed.{Holds, Tabulates}
 use Rattle.field.specs.Word.{odd}
 use Rattle.field.specs.Level.{levelAt, K}
 use Rattle.field.specs.declared.Level.{Level}
-use Rattle.rows.specs.Elements.{el, Words}
-use Rattle.rows.specs.Outcome.{smallOf, bitOf, elementOf}
-use Rattle.rows.specs.Polynomial.{sum, value}
-use Rattle.rows.proofs.SumLaws.{sum-none, sum-more}
-use Rattle.rows.proofs.ElementLaws.{fits-le, holds-value, holds-held}
-use Rattle.rows.proofs.NumberLaws.{row-le, row-next}
+use Rattle.row.specs.Elements.{el, Words}
+use Rattle.row.specs.Lent.{smallOf, bitOf, elementOf}
+use Rattle.row.specs.Polynomial.{sum, value}
+use Rattle.row.proofs.SumLaws.{sum-none, sum-more}
+use Rattle.row.proofs.ElementLaws.{fits-le, holds-value, holds-held}
+use Rattle.row.proofs.NumberLaws.{row-le, row-next}
 use Rattle.folding.specs.Weights.{leaf}
 use Rattle.folding.proofs.values.all_rows.Statement.{statement}
 use Rattle.folding.proofs.values.all_rows.Tie as tie

@@ -8,10 +8,10 @@ use Rattle.field.specs.Packed.{Holds, Tabulates}
 use Rattle.field.specs.Word.{odd}
 use Rattle.field.specs.Level.{levelAt, K}
 use Rattle.field.specs.declared.Level.{Level}
-use Rattle.rows.specs.Elements.{el, Words}
-use Rattle.rows.specs.Step.{Step}
-use Rattle.rows.proofs.ElementLaws.{fits-le}
-use Rattle.rows.proofs.NumberLaws.{pos, pow-double, pow-room}
+use Rattle.row.specs.Elements.{el, Words}
+use Rattle.row.specs.Step.{Step}
+use Rattle.row.proofs.ElementLaws.{fits-le}
+use Rattle.row.proofs.NumberLaws.{pos, pow-double, pow-room}
 use Rattle.folding.specs.Steps.{Folded, rowTotal}
 use Rattle.folding.proofs.RowLaws.{digit-le, total-none, total-digit}
 use Rattle.folding.proofs.values.digits.Statement.{statement}

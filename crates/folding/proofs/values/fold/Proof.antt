@@ -4,8 +4,8 @@ use native.Mathlib.Omega.{arith}
 use borrow.Author.Needs.{needs}
 use lib.ListN.{length}
 use Rattle.field.specs.Level.{levelAt, K}
-use Rattle.rows.specs.Elements.{el, Fits}
-use Rattle.rows.proofs.ElementLaws.{fits-le}
+use Rattle.row.specs.Elements.{el, Fits}
+use Rattle.row.proofs.ElementLaws.{fits-le}
 use Rattle.folding.proofs.values.fold.Statement.{statement}
 use Rattle.folding.proofs.values.fold.Tie as tie
 

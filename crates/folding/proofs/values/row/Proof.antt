@@ -9,11 +9,11 @@ use Rattle.field.specs.Packed.{Holds, Tabulates}
 use Rattle.field.specs.Word.{odd}
 use Rattle.field.specs.Level.{levelAt, K}
 use Rattle.field.specs.declared.Level.{Level}
-use Rattle.rows.specs.Elements.{el, valueOf}
-use Rattle.rows.specs.Outcome.{smallOf}
-use Rattle.rows.specs.Step.{Step}
-use Rattle.rows.proofs.ElementLaws.{fits-le}
-use Rattle.rows.proofs.NumberLaws.{pow-double}
+use Rattle.row.specs.Elements.{el, valueOf}
+use Rattle.row.specs.Lent.{smallOf}
+use Rattle.row.specs.Step.{Step}
+use Rattle.row.proofs.ElementLaws.{fits-le}
+use Rattle.row.proofs.NumberLaws.{pow-double}
 use Rattle.folding.specs.Steps.{Leaves, Folded}
 use Rattle.folding.proofs.RowLaws.{digit-le, exponent-lt, total-first}
 use Rattle.folding.proofs.values.row.Statement.{statement}

@@ -5,10 +5,10 @@ use borrow.Author.Needs.{needs}
 use Rattle.field.specs.Packed.{Holds}
 use Rattle.field.specs.Level.{levelAt, K}
 use Rattle.field.specs.declared.Level.{Level}
-use Rattle.rows.specs.Elements.{el}
-use Rattle.rows.specs.Polynomial.{sum}
-use Rattle.rows.proofs.SumLaws.{sum-none, sum-more}
-use Rattle.rows.proofs.ElementLaws.{fits-le}
+use Rattle.row.specs.Elements.{el}
+use Rattle.row.specs.Polynomial.{sum}
+use Rattle.row.proofs.SumLaws.{sum-none, sum-more}
+use Rattle.row.proofs.ElementLaws.{fits-le}
 use Rattle.folding.proofs.values.total.Statement.{statement}
 use Rattle.folding.proofs.values.total.Tie as tie
 

@@ -7,11 +7,11 @@ use lib.ListN.{length}
 use Rattle.field.specs.Packed.{Holds, Tabulates}
 use Rattle.field.specs.Level.{levelAt, K}
 use Rattle.field.specs.declared.Level.{Level}
-use Rattle.rows.specs.Elements.{el, Fits}
-use Rattle.rows.specs.Outcome.{smallOf, entryOf, bitOf, elementOf}
-use Rattle.rows.specs.Polynomial.{sum, value, raise}
-use Rattle.rows.proofs.ElementLaws.{fits-le, fits-all, holds-value, holds-held, cleared-words}
-use Rattle.rows.proofs.ListLaws.{blanks-length}
+use Rattle.row.specs.Elements.{el, Fits}
+use Rattle.row.specs.Lent.{smallOf, entryOf, bitOf, elementOf}
+use Rattle.row.specs.Polynomial.{sum, value, raise}
+use Rattle.row.proofs.ElementLaws.{fits-le, fits-all, holds-value, holds-held, cleared-words}
+use Rattle.row.proofs.ListLaws.{blanks-length}
 use Rattle.folding.specs.Weights.{leaf}
 use Rattle.folding.proofs.RowLaws.{values-total}
 use Rattle.folding.proofs.values.weighted.Statement.{statement}

@@ -1,0 +1,5 @@
+pub mod Lists
+pub mod Elements
+pub mod Polynomial
+pub mod Step
+pub mod Lent

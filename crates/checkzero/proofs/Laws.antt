@@ -11,6 +11,7 @@ use lib.Dec.{eqb}
 use lib.ListN.{length}
 use lib.Seq.{take-all}
 use Rattle.lists.specs.Words.{part, concat}
+use Rattle.lists.proofs.Concat.{concat-cong}
 use Rattle.field.specs.Ring.{Ring}
 use Rattle.field.specs.RingLaws.{ring}
 use Rattle.field.specs.declared.Level.{Level}
@@ -21,7 +22,7 @@ use Rattle.row.specs.Polynomial.{sum}
 use Rattle.row.specs.Step.{Put, Added}
 use Rattle.row.proofs.SumLaws.{sum-cong}
 use Rattle.row.proofs.ElementLaws.{part-words, fits-le, fits-all}
-use Rattle.rows.proofs.BlockLaws.{concat-cong, concat-parts}
+use Rattle.rows.proofs.BlockLaws.{concat-parts}
 use Rattle.folding.specs.Weights.{weightedSum}
 use Rattle.folding.proofs.WeightLaws.{sum-split, added-same, shares-none, shares-more}
 use Rattle.constraints.specs.Graded.{summed, sigma, pow}

@@ -1,25 +1,22 @@
 -- Elements in lists of words and in packed words, at every level.
 use mathlib.Core.Path.{_≡_, sym, _∙_, ap, subst}
-use mathlib.Core.Bool.{true}
 use mathlib.Core.List.{List}
 use Prim.Native.Nat.{ℕ, zero, suc, _+_, _-_, _*_, _^_, _≤_, _<_}
 use native.Mathlib.Decide.{decLt}
-use native.Mathlib.Nat.{min-le-left, lt-of-lt-of-le, one-mul, mul-le-mul-left, mul-le-mul-right, le-trans, lt-of-le-of-lt}
+use native.Mathlib.Nat.{min-le-left, lt-of-lt-of-le, one-mul, mul-le-mul-left, mul-le-mul-right, le-trans}
 use native.Mathlib.Omega.{arith}
-use borrow.Author.Tests.{leb-true}
-use lib.Dec.{leb}
-use lib.ListN.{length, getD, drop, length-take, length-drop, List·getD-eq-default}
+use lib.ListN.{length, getD, drop, length-take, length-drop}
 use lib.Pow.{pow-pos}
 use lib.Seq.{ext-getD}
 use Rattle.lists.specs.Words.{part, put}
-use Rattle.lists.proofs.Words.{part-at, part-length, put-length, all-at}
+use Rattle.lists.proofs.Words.{part-at, part-length, put-length}
 use Rattle.field.specs.declared.Level.{Level}
 use Rattle.field.specs.Level.{K}
-use Rattle.field.specs.Word.{element, words, within}
+use Rattle.field.specs.Word.{element, words}
 use Rattle.field.specs.Packed.{coordinate, Holds}
 use Rattle.field.proofs.Elements.{words-length, words-lt, element-words, words-element-lt, zero-word}
 use Rattle.row.specs.Lists.{tab}
-use Rattle.row.specs.Elements.{el, Fits, Words, Within, valueOf, Held}
+use Rattle.row.specs.Elements.{el, Fits, Words, valueOf, Held}
 use Rattle.row.specs.Step.{Step, Put, PutTwo}
 use Rattle.row.proofs.ListLaws.{tab-length, tab-at, put-before, put-in, put-after, blanks, blanks-length, blanks-at}
 use Rattle.row.proofs.NumberLaws.{row-le, row-next}
@@ -140,15 +137,3 @@ module _ (l : Level) where
 
   pub cleared-el : {s : List ℕ} (n i : ℕ) → s ≡ blanks n → Fits l (i + 1) n → el l s i ≡ K l .zero
   cleared-el n i e f = ap (λ t. el l t i) e ∙ blanks-el n i f
-
-  -- what the test of all words shows
-  pub within-each : (s : List ℕ) → within l s ≡ true → Within l s
-  unfolding within
-  within-each s e k = pick (decLt k (length s))
-    where
-      pick : Dec (k < length s) → getD s k 0 ≤ l .limit
-      pick (yes p) = leb-true (getD s k 0) (l .limit) (all-at (λ x. leb x (l .limit)) s e k p)
-      pick (no p) = subst (λ y. y ≤ l .limit) (sym (List·getD-eq-default s 0 {n = k} (omega arith))) (omega arith)
-
-  pub within-words : (s : List ℕ) → l .limit < 2 ^ l .width → Within l s → Words l s
-  within-words s h p k = lt-of-le-of-lt (p k) h

@@ -1,33 +1,18 @@
 -- Lists given by their parts, and loops that fill a list with them.
-use mathlib.Core.Path.{_≡_, refl, sym, ap, ap₂, _∙_}
-use mathlib.Core.List.{List, _++_, append-assoc, append-nil}
-use Prim.Native.Nat.{ℕ, zero, suc, _+_, _*_, _≤_, _<_}
-use native.Mathlib.Nat.{mul-suc, mul-zero, add-zero, add-suc}
+use mathlib.Core.Path.{_≡_, sym, ap, ap₂, _∙_}
+use mathlib.Core.List.{List, _++_, append-nil}
+use Prim.Native.Nat.{ℕ, zero, suc, _+_, _*_, _≤_}
+use native.Mathlib.Nat.{mul-suc, mul-zero}
 use native.Mathlib.Numerals.{add-one}
-use native.Mathlib.Omega.{arith}
-use lib.ListN.{length, take, drop, length-append, drop-of-length-le}
+use lib.ListN.{length, take, drop, drop-of-length-le}
 use lib.Seq.{take-add, take-at, drop-drop, drop-append-add}
 use Rattle.lists.specs.Words.{part, put, concat}
-
-pub concat-length : (w n : ℕ) (f : ℕ → List ℕ) → ((i : ℕ) → i < n → length (f i) ≡ w) → length (concat n f) ≡ w * n
-unfolding concat
-concat-length w zero f h = sym (mul-zero w)
-concat-length w (suc n) f h = length-append (concat n f) (f n) ∙ ap₂ _+_ (concat-length w n f (λ i l. h i (omega arith))) (h n (omega arith)) ∙ sym (mul-suc w n)
-
-pub concat-cong : (n : ℕ) (f g : ℕ → List ℕ) → ((i : ℕ) → i < n → f i ≡ g i) → concat n f ≡ concat n g
-unfolding concat
-concat-cong zero f g h = refl
-concat-cong (suc n) f g h = ap₂ _++_ (concat-cong n f g (λ i l. h i (omega arith))) (h n (omega arith))
-
-pub concat-add : (a b : ℕ) (f : ℕ → List ℕ) → concat (a + b) f ≡ concat a f ++ concat b (λ i. f (a + i))
-unfolding concat
-concat-add a zero f = ap (λ n. concat n f) (add-zero a) ∙ sym (append-nil (concat a f))
-concat-add a (suc b) f = ap (λ n. concat n f) (add-suc a b) ∙ ap (λ t. t ++ f (a + b)) (concat-add a b f) ∙ append-assoc (concat a f) (concat b (λ i. f (a + i))) (f (a + b))
+use Rattle.lists.proofs.Concat.{concat-length, concat-append}
 
 pub concat-flat : (s n : ℕ) (f : ℕ → List ℕ) → concat (s * n) f ≡ concat n (λ j. concat s (λ k. f (s * j + k)))
 unfolding concat
 concat-flat s zero f = ap (λ n. concat n f) (mul-zero s)
-concat-flat s (suc n) f = ap (λ n. concat n f) (mul-suc s n) ∙ concat-add (s * n) s f ∙ ap (λ t. t ++ concat s (λ k. f (s * n + k))) (concat-flat s n f)
+concat-flat s (suc n) f = ap (λ n. concat n f) (mul-suc s n) ∙ concat-append (s * n) s f ∙ ap (λ t. t ++ concat s (λ k. f (s * n + k))) (concat-flat s n f)
 
 -- a list by its parts of w words
 pub concat-parts : (w n : ℕ) (ys : List ℕ) → take (w * n) ys ≡ concat n (λ i. part (w * i) w ys)
@@ -43,7 +28,7 @@ built-none d w f = rw mul-zero
 pub built-more : (w n : ℕ) (d : List ℕ) (f : ℕ → List ℕ) → ((i : ℕ) → length (f i) ≡ w) → put (w * n) (f n) (concat n f ++ drop (w * n) d) ≡ concat (n + 1) f ++ drop (w * (n + 1)) d
 unfolding concat
 built-more w n d f h =
-    let l : length (concat n f) ≡ w * n = concat-length w n f (λ i p. h i) in
+    let l : length (concat n f) ≡ w * n = concat-length w f h n in
     let t : drop (w * n + length (f n)) (concat n f ++ drop (w * n) d) ≡ drop (w * n + w) d =
     ap₂ (λ (k e : ℕ). drop (k + e) (concat n f ++ drop (w * n) d)) (sym l) (h n) ∙ drop-append-add (concat n f) (drop (w * n) d) w ∙ drop-drop w (w * n) d in
     rw (add-one n, take-at (concat n f) (drop (w * n) d) (w * n) l, t, mul-suc)

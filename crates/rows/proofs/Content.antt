@@ -8,6 +8,7 @@ use native.Mathlib.Omega.{arith}
 use lib.ListN.{length}
 use lib.Seq.{take-all}
 use Rattle.lists.specs.Words.{part, concat}
+use Rattle.lists.proofs.Concat.{concat-cong, concat-append}
 use Rattle.field.specs.Ring.{Ring}
 use Rattle.field.specs.declared.Level.{Level}
 use Rattle.field.specs.Level.{K}
@@ -17,7 +18,7 @@ use Rattle.row.specs.Polynomial.{sum, monomial}
 use Rattle.row.specs.Step.{Step, AddedDown}
 use Rattle.row.proofs.NumberLaws.{row-le, cells}
 use Rattle.row.proofs.ElementLaws.{part-words, fits-le, fits-all}
-use Rattle.rows.proofs.BlockLaws.{concat-cong, concat-add, concat-flat, concat-parts}
+use Rattle.rows.proofs.BlockLaws.{concat-flat, concat-parts}
 use Rattle.rows.proofs.Shares.{Rows}
 
 -- y added at place d of row j, of s elements
@@ -51,7 +52,7 @@ module _ (l : Level) where
       → ((j : ℕ) → j < n → (k : ℕ) → k < s → el l ys (s * j + k) ≡ c j k) → ((j : ℕ) → j < m → (k : ℕ) → k < s → el l ys (s * n + s * j + k) ≡ e j k)
       → ys ≡ concat n (λ j. concat s (λ k. words l (c j k))) ++ concat m (λ j. concat s (λ k. words l (e j k)))
   content n m s ys c e h pos size hc he =
-      sym (take-all (w * (s * (n + m))) ys (omega arith)) ∙ concat-parts w (s * (n + m)) ys ∙ ap (λ t. concat t P) (mul-add s n m) ∙ concat-add (s * n) (s * m) P
+      sym (take-all (w * (s * (n + m))) ys (omega arith)) ∙ concat-parts w (s * (n + m)) ys ∙ ap (λ t. concat t P) (mul-add s n m) ∙ concat-append (s * n) (s * m) P
       ∙ ap₂ _++_
       (concat-flat s n P ∙ concat-cong n (λ j. concat s (λ k. P (s * j + k))) (λ j. concat s (λ k. words l (c j k)))
       (λ j a. concat-cong s (λ k. P (s * j + k)) (λ k. words l (c j k)) (λ k b. at (s * j + k) (omega (arith, row-le s j n a, mul-add s n m)) ∙ ap (words l) (hc j a k b))))

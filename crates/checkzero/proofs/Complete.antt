@@ -7,10 +7,9 @@ use borrow.Author.Tests.{ne-eqb, eqb-true, eqb-false}
 use lib.Dec.{eqb}
 use Rattle.field.specs.Ring.{Ring}
 use Rattle.field.specs.RingLaws.{ring, mul-zero, zero-mul, zero-add}
-use Rattle.field.specs.Word.{vector}
-use Rattle.constraints.specs.Graded.{summed, sigma, total, pow, Polynomial, coefficient, top, eval, polynomials, point}
+use Rattle.constraints.specs.Graded.{summed, sigma, pow, Polynomial, coefficient, top, eval, polynomials}
 use Rattle.constraints.specs.GradedLaws.{summed-cong, map-total}
-use Rattle.constraints.specs.System.{System, masked, polynomial, value, Honest}
+use Rattle.constraints.specs.System.{System, masked, polynomial, Honest}
 use Rattle.constraints.proofs.Sums.{sigma-zero, sigma-add}
 use Rattle.constraints.proofs.Coefficients.{coefficient-vector}
 use Rattle.constraints.proofs.Evaluation.{at, at-point, at-eval, at-top}

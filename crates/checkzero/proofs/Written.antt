@@ -5,22 +5,21 @@ use mathlib.Core.Logic.{_↔_}
 use mathlib.Core.List.{List, [], _∷_}
 use Prim.Native.Nat.{ℕ, zero, suc, _+_, _-_, _*_, _^_, _≤_, _<_}
 use native.Mathlib.Omega.{arith}
-use native.Mathlib.Numerals.{add-one}
 use borrow.Author.Count.{below-more}
 use lib.Dec.{ltb}
 use lib.ListN.{length}
-use Rattle.lists.specs.Words.{all, concat}
+use Rattle.lists.specs.Words.{all}
 use Rattle.lists.proofs.Concat.{concat-length, concat-part, rows-length, all-concat}
 use Rattle.field.specs.Ring.{Ring}
 use Rattle.field.specs.declared.Level.{Level}
 use Rattle.field.specs.Level.{K}
-use Rattle.field.specs.Word.{vector, element, words, within, isZero, equal}
+use Rattle.field.specs.Word.{element, words, within}
 use Rattle.field.proofs.Elements.{words-length, element-words}
 use Rattle.field.proofs.Equal.{zero-true, equal-true, words-within}
 use Rattle.key.specs.Key.{below}
-use Rattle.constraints.specs.Graded.{summed, sigma, coefficient, top, eval, point}
+use Rattle.constraints.specs.Graded.{coefficient, top, eval}
 use Rattle.constraints.specs.GradedLaws.{summed-cong}
-use Rattle.constraints.specs.System.{System, masked, polynomial, value}
+use Rattle.constraints.specs.System.{System, masked, polynomial}
 use Rattle.constraints.specs.Slices.{bits, elementAt, elements, maskedBytes}
 use Rattle.constraints.specs.Truth.{HonestNumbers}
 use Rattle.constraints.proofs.Agreement.{value-cong}

@@ -1,7 +1,7 @@
 // The work of CheckZero on lent slices: weighted sums, masks, and the two sides of the verifier's equation. No entry.
 // No branch and no index depends on the content of a slice.
 ghost use mathlib.Core.Path.{_≡_};
-ghost use Prim.Native.Nat.{ℕ, _+_, _-_, _*_, _^_, _≤_, _<_};
+ghost use Prim.Native.Nat.{_+_, _-_, _*_, _^_, _≤_, _<_};
 ghost use lib.Dec.{eqb};
 ghost use lib.ListN.{length};
 ghost use Rattle.lists.specs.Words.{concat};

@@ -1,5 +1,4 @@
 -- Polynomials over a ring K by their coefficients, and elements of K with a value for X: one set of operations for both.
-use mathlib.Core.Bool.{Bool, true, false}
 use Prim.Native.Nat.{ℕ, zero, suc}
 use Rattle.field.specs.Ring.{Ring}
 use Rattle.field.specs.Vector.{Vector, zeros, sum, scale}

@@ -1,7 +1,7 @@
 -- What the lent slices mean, and what is written to them.
 use mathlib.Core.Bool.{Bool, cond}
-use mathlib.Core.List.{List, [], _∷_, _++_}
-use Prim.Native.Nat.{ℕ, zero, suc, _+_, _*_, _%_}
+use mathlib.Core.List.{List, [], _∷_}
+use Prim.Native.Nat.{ℕ, suc, _+_, _*_, _%_}
 use lib.ListN.{getD}
 use Rattle.lists.specs.Words.{part, concat}
 use Rattle.field.specs.Ring.{Ring}

@@ -11,7 +11,6 @@ use Rattle.lists.specs.Words.{part, concat}
 use Rattle.lists.proofs.Concat.{concat-cong}
 use Rattle.field.specs.Ring.{Ring, Hom}
 use Rattle.field.specs.RingLaws.{hom-zero}
-use Rattle.field.specs.Binary.{bit}
 use Rattle.field.specs.Vector.{zeros as 𝟘s, unit, scale}
 use Rattle.field.specs.VectorLaws.{scale-zeros}
 use Rattle.field.specs.Quotient.{constant}

@@ -7,13 +7,12 @@ use native.Mathlib.Omega.{arith}
 use lib.Bits.{bitAnd}
 use lib.ListN.{length, getD, drop}
 use lib.Seq.{getD-drop}
-use Rattle.lists.specs.Words.{all}
 use Rattle.field.specs.RingLaws.{mul-zero, zero-mul as 𝟘-mul, one-mul as 𝟙-mul}
 use Rattle.field.specs.Binary.{bit}
 use Rattle.field.specs.QuotientLaws.{constant-times, generator-times}
 use Rattle.field.specs.declared.Level.{Level}
 use Rattle.field.specs.Level.{F, K, embed, Y}
-use Rattle.field.specs.Word.{odd, digits, small, word, element, words, within}
+use Rattle.field.specs.Word.{odd, digits, small, word, element, words}
 use Rattle.field.specs.Packed.{lane, coordinate, Holds, Tabulates}
 use Rattle.field.proofs.Number.{multiple, multiple-none, multiple-one, number-digits}
 use Rattle.field.proofs.Coordinate.{at, upper, upper-start, upper-step, upper-end, wordAt, list-length, word-lt, word-scale, digits-word, read-written, written-read}

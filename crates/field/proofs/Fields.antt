@@ -1,6 +1,6 @@
 -- F and K of every level: one is not zero in either, and F lies in K injectively. The ring laws are part of F and K.
 use mathlib.Core.Path.{_≡_, sym}
-use mathlib.Core.Bool.{true, false, false≢true}
+use mathlib.Core.Bool.{false≢true}
 use Prim.Native.Nat.{ℕ, _+_, _^_, _≤_, _<_}
 use native.Mathlib.Omega.{arith}
 use Rattle.field.specs.Binary.{binary}

@@ -15,7 +15,7 @@ use Rattle.field.specs.Binary.{binary}
 use Rattle.field.specs.Vector.{Vector, sum, scale}
 use Rattle.field.specs.Quotient.{timesX}
 use Rattle.field.specs.Extension.{extend}
-use Rattle.field.specs.Word.{digits, number}
+use Rattle.field.specs.Word.{digits}
 use Rattle.field.specs.Packed.{lane, coordinate}
 use Rattle.field.proofs.Number.{multiple, multiple-more}
 use Rattle.field.proofs.Coordinate.{at, wordAt, word-sum, word-scale, word-Y-zero, word-Y-tap, word-Y-other}

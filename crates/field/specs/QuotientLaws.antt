@@ -7,7 +7,7 @@ use Rattle.field.specs.Ring.{Ring}
 use Rattle.field.specs.RingLaws.{ring, zero-add, mul-zero}
 use Rattle.field.specs.Vector.{Vector, zeros, unit, sum, scale, push, top}
 use Rattle.field.specs.VectorLaws.{pad, vector, sum-zeros, zero-scale, one-scale, add-scale, mul-scale, push-sum, top-sum, push-scale, top-scale, push-pad, top-pad, pad-same, scale-injective}
-use Rattle.field.specs.Quotient.{rule, timesX, horner, times, constant, generator}
+use Rattle.field.specs.Quotient.{timesX, horner, times, constant, generator}
 
 module _ (R : Ring) (w t : ℕ) where
   open Ring R using (Carrier, zero as 𝟘, one as 𝟙, add as _⊕_, mul as _⊗_)

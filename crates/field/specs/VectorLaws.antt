@@ -1,6 +1,6 @@
 -- Laws of vectors over any such ring, proved: a reader need not believe this file.
 use mathlib.Core.Path.{_≡_, refl, sym, _∙_, ap}
-use Prim.Native.Nat.{ℕ, zero, suc, _≤_, _<_}
+use Prim.Native.Nat.{ℕ, zero, suc, _<_}
 use native.Mathlib.Omega.{arith}
 use Rattle.field.specs.Ring.{Ring}
 use Rattle.field.specs.RingLaws.{add-mul, mul-zero, zero-mul, one-mul}

@@ -1,6 +1,6 @@
 -- The rows of an entry that takes a key: sizes, and then refusals 3 to 7.
-use mathlib.Core.Path.{_≡_, refl, sym, ap, _∙_}
-use mathlib.Core.Bool.{Bool, true, false, not}
+use mathlib.Core.Path.{_≡_, sym, _∙_}
+use mathlib.Core.Bool.{Bool, true}
 use mathlib.Core.List.{_++_}
 use borrow.Author.Tests.{not-false}
 use Rattle.refusal.specs.Answer.{firstOf}

@@ -1,6 +1,6 @@
 // The key of document 01: its sizes and d, and the refusals that concern it.
 ghost use mathlib.Core.Path.{_≡_};
-ghost use Prim.Native.Nat.{_+_, _^_, _≤_, _<_};
+ghost use Prim.Native.Nat.{_+_, _≤_, _<_};
 ghost use lib.Dec.{eqb};
 ghost use Rattle.refusal.specs.Answer.{firstOf};
 ghost use Rattle.field.specs.Level.{levelAt};

@@ -1,12 +1,9 @@
 -- Completeness holds, refusals included.
-use mathlib.Core.Path.{_≡_, refl, sym, ap, ap₂, _∙_}
+use mathlib.Core.Path.{_≡_, refl, ap, ap₂, _∙_}
 use mathlib.Core.Bool.{Bool, true, false, _&&_, false≢true}
 use mathlib.Core.List.{List, [], _∷_, _++_}
-use Prim.Native.Nat.{ℕ, _+_, _*_}
+use Prim.Native.Nat.{ℕ}
 use native.Mathlib.Nat.{mul-comm}
-use borrow.Author.Tests.{eq-eqb}
-use lib.Dec.{eqb}
-use lib.ListN.{length}
 use Rattle.lists.specs.Lent.{long}
 use Rattle.lists.proofs.Lent.{Long, each-long, long-each}
 use Rattle.refusal.specs.Answer.{firstOf}
@@ -26,8 +23,8 @@ use Rattle.key.proofs.Checked.{Checked, checked, checked-done}
 use Rattle.constraints.specs.System.{System}
 use Rattle.constraints.specs.Entry.{system}
 use Rattle.constraints.specs.Slices.{maskedBytes, witnessOf}
-use Rattle.checkzero.specs.Slices.{topsZero, proofWords, accepts}
-use Rattle.checkzero.proofs.Written.{tops-true, complete-written, proof-length, proof-within, masked-length, masked-below}
+use Rattle.checkzero.specs.Slices.{topsZero, proofWords}
+use Rattle.checkzero.proofs.Written.{complete-written, proof-length, proof-within, masked-length, masked-below}
 use Rattle.prover.specs.Entry.{proveLent, proveRows, topsRow, proveResult, proveOutcome}
 use Rattle.prover.specs.Solved.{SolvesKey}
 use Rattle.prover.proofs.Solved.{solved, solves}

@@ -1,7 +1,7 @@
 -- The two sides of the verifier's equation, as the functions of crates folding and checkzero make them.
 use mathlib.Core.Path.{_≡_, sym, _∙_, ap, ap₂}
 use mathlib.Core.List.{List}
-use Prim.Native.Nat.{ℕ, _+_, _-_, _*_}
+use Prim.Native.Nat.{ℕ, _+_, _-_}
 use native.Mathlib.Nat.{mul-zero}
 use lib.ListN.{length}
 use Rattle.lists.specs.Words.{part}

@@ -8,7 +8,7 @@ use Rattle.field.specs.Level.{levelAt}
 use Rattle.arithmetic.specs.Entry.{long, rows}
 use Rattle.field.proofs.Tested.{fine, above}
 use Rattle.arithmetic.proofs.Lent.{rows1, rows2, rows3, rows4}
-use Prim.Native.Nat.{ℕ, _-_}
+use Prim.Native.Nat.{ℕ}
 use mathlib.Core.Path.{_≡_, sym, ap, _∙_}
 use lib.ListN.{length}
 use borrow.Author.Needs.{needs}

@@ -8,7 +8,7 @@ use Rattle.constraints.specs.Truth.{Truth}
 use Rattle.constraints.specs.Entry.{constraintsRows, constraintsOutcome, system}
 use Rattle.constraints.proofs.Fine.{ConstraintsFine, constraints-fine}
 use Rattle.constraints.proofs.Truth.{truth}
-use Prim.Native.Nat.{ℕ, _-_}
+use Prim.Native.Nat.{ℕ}
 use mathlib.Core.Path.{sym, _∙_}
 use native.Mathlib.Omega.{arith}
 use borrow.Author.Needs.{needs}

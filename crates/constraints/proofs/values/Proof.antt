@@ -3,7 +3,6 @@ use Rattle.field.specs.Level.{levelAt}
 use Rattle.constraints.specs.Slices.{valueWords}
 use Rattle.constraints.proofs.Fine.{values-fine}
 use Rattle.constraints.specs.Entry.{valuesRows, valuesOutcome, system}
-use Prim.Native.Nat.{_-_}
 use mathlib.Core.Path.{sym, _∙_}
 use borrow.Author.Needs.{needs}
 use Rattle.constraints.proofs.values.Statement.{statement}

@@ -10,7 +10,6 @@ use Rattle.key.proofs.Sized.{sized}
 use Rattle.key.proofs.Fine.{withins-more, withins-last}
 use Rattle.key.proofs.Checked.{told}
 use Rattle.constraints.specs.Entry.{valuesLent}
-use Prim.Native.Nat.{_-_}
 use mathlib.Core.Path.{_≡_, refl, sym, _∙_}
 use borrow.Author.Needs.{needs}
 use Rattle.constraints.proofs.values_refused.Statement.{statement}

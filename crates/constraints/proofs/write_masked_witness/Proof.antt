@@ -4,10 +4,9 @@ use Rattle.rows.specs.Outcome as O
 use Rattle.key.specs.Key.{degree}
 use Rattle.constraints.proofs.Fine.{room}
 use Rattle.constraints.proofs.Link.{masked-written}
-use Prim.Native.Nat.{_-_, _*_, _<_}
+use Prim.Native.Nat.{_*_, _<_}
 use native.Mathlib.Nat.{mul-comm}
 use mathlib.Core.Path.{_≡_, sym, ap, subst, _∙_}
-use native.Mathlib.Omega.{arith}
 use lib.ListN.{length}
 use borrow.Author.Needs.{needs}
 use Rattle.constraints.proofs.write_masked_witness.Statement.{statement}

@@ -5,7 +5,7 @@ use Rattle.row.specs.Lent.{LentKey}
 use Rattle.rows.specs.Outcome as O
 use Rattle.constraints.proofs.Fine.{room, elements-columns, polynomials-columns}
 use Rattle.constraints.proofs.Link.{polynomials-written}
-use Prim.Native.Nat.{_+_, _-_, _*_, _^_, _≤_, _<_}
+use Prim.Native.Nat.{_+_, _*_, _^_, _≤_, _<_}
 use mathlib.Core.Path.{_≡_, sym, ap, subst, _∙_}
 use lib.ListN.{length}
 use borrow.Author.Needs.{needs}

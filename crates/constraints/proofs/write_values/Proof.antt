@@ -6,7 +6,7 @@ use Rattle.rows.specs.Outcome as O
 use Rattle.key.specs.Key.{degree}
 use Rattle.constraints.proofs.Fine.{room, elements-columns}
 use Rattle.constraints.proofs.Link.{values-written}
-use Prim.Native.Nat.{_+_, _-_, _*_, _^_, _≤_, _<_}
+use Prim.Native.Nat.{_+_, _*_, _^_, _≤_, _<_}
 use native.Mathlib.Nat.{mul-comm}
 use mathlib.Core.Path.{_≡_, sym, ap, subst, _∙_}
 use lib.ListN.{length}

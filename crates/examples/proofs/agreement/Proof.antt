@@ -2,7 +2,7 @@ use mathlib.Core.List.{List}
 use Rattle.field.specs.Level.{levelAt}
 use Rattle.constraints.specs.Slices.{elementAt}
 use Rattle.constraints.proofs.Done.{values-done}
-use Prim.Native.Nat.{ℕ, _-_}
+use Prim.Native.Nat.{ℕ}
 use mathlib.Core.Path.{ap, _∙_}
 use borrow.Author.Needs.{needs}
 use Rattle.examples.proofs.agreement.Statement.{statement}

@@ -3,7 +3,7 @@ use borrow.Author.Tests.{eq-eqb, ne-eqb}
 use lib.Dec.{eqb}
 use Rattle.refusal.specs.Answer.{firstOf}
 use Rattle.key.specs.Key.{checks}
-use Prim.Native.Nat.{ℕ, zero, _-_}
+use Prim.Native.Nat.{ℕ}
 use mathlib.Core.Path.{_≡_, sym}
 use Rattle.key.proofs.checks.Statement.{statement}
 use Rattle.key.proofs.checks.Tie as tie

@@ -1,5 +1,4 @@
 use Rattle.refusal.proofs.Answers.{when-numbered}
-use Prim.Native.Nat.{_-_}
 use borrow.Author.Needs.{needs}
 use Rattle.perk.proofs.perk_product.Statement.{statement}
 use Rattle.perk.proofs.perk_product.Tie as tie

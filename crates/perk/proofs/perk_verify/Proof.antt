@@ -1,5 +1,4 @@
 use Rattle.refusal.specs.Verdict.{verdictNumber}
-use Prim.Native.Nat.{_-_}
 use mathlib.Core.Path.{ap, _∙_}
 use borrow.Author.Needs.{needs}
 use Rattle.perk.proofs.perk_verify.Statement.{statement}

@@ -4,8 +4,8 @@ use Rattle.refusal.proofs.Answers.{when-refused, after-refused, decided-after}
 use Rattle.field.specs.Level.{levelAt}
 use Rattle.prover.specs.Entry.{proveRows, topsRow, proveResult, proveOutcome}
 use Rattle.prover.proofs.Solved.{solved}
-use Prim.Native.Nat.{ℕ, _-_}
-use mathlib.Core.Path.{_≡_, refl, sym, ap, _∙_}
+use Prim.Native.Nat.{ℕ}
+use mathlib.Core.Path.{sym, ap, _∙_}
 use borrow.Author.Needs.{needs}
 use Rattle.prover.proofs.prove.Statement.{statement}
 use Rattle.prover.proofs.prove.Tie as tie

@@ -11,7 +11,6 @@ use Rattle.key.proofs.Sized.{sized, degree-lt}
 use Rattle.key.proofs.Fine.{withins-more, withins-last}
 use Rattle.key.proofs.Checked.{told}
 use Rattle.prover.specs.Entry.{proveLent}
-use Prim.Native.Nat.{_-_}
 use mathlib.Core.Path.{_≡_, sym, ap, _∙_}
 use native.Mathlib.Omega.{arith}
 use borrow.Author.Needs.{needs}

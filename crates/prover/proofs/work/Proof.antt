@@ -1,4 +1,3 @@
-use mathlib.Core.Path.{refl}
 use borrow.Author.Needs.{needs}
 use Rattle.row.proofs.ListLaws.{blanks-length}
 use Rattle.prover.proofs.work.Statement.{statement}

@@ -2,7 +2,6 @@ use Rattle.lists.specs.Lent.{long}
 use Rattle.lists.proofs.Lent.{differences-long}
 use Rattle.key.specs.declared.Lengths.{Lengths}
 use Rattle.verifier.specs.Entry.{verifyLent}
-use Prim.Native.Nat.{_-_}
 use mathlib.Core.Path.{ap, _∙_}
 use Rattle.verifier.proofs.lengths.Statement.{statement}
 use Rattle.verifier.proofs.lengths.Tie as tie

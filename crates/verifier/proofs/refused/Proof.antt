@@ -11,7 +11,6 @@ use Rattle.key.proofs.Sized.{sized}
 use Rattle.key.proofs.Fine.{withins-more, withins-last}
 use Rattle.key.proofs.Checked.{told}
 use Rattle.verifier.specs.Entry.{verifyLent}
-use Prim.Native.Nat.{_-_}
 use mathlib.Core.Path.{_≡_, refl, sym, _∙_}
 use borrow.Author.Needs.{needs}
 use Rattle.verifier.proofs.refused.Statement.{statement}

@@ -3,7 +3,7 @@ use Rattle.lists.proofs.Words.{part-at}
 use Rattle.field.specs.Level.{levelAt}
 use Rattle.field.specs.Packed.{lane, Holds}
 use Rattle.field.proofs.Packing.{by-lanes}
-use Prim.Native.Nat.{ℕ, zero, suc, _+_, _-_, _*_, _<_}
+use Prim.Native.Nat.{ℕ, zero, suc, _+_, _*_, _<_}
 use mathlib.Core.Path.{_≡_, sym, ap, _∙_}
 use native.Mathlib.Omega.{arith}
 use lib.ListN.{getD}

@@ -8,10 +8,10 @@ use Rattle.field.specs.Level.{levelAt, K}
 use Rattle.field.specs.Word.{words, isZero}
 use Rattle.field.specs.Packed.{Holds}
 use Rattle.field.proofs.Elements.{words-length}
-use Prim.Native.Nat.{ℕ, _-_, _≤_}
+use Prim.Native.Nat.{_-_, _≤_}
 use mathlib.Core.Path.{_≡_, refl, sym, ap, ap₂, _∙_}
 use native.Mathlib.Omega.{arith}
-use lib.ListN.{length, getD, take}
+use lib.ListN.{take}
 use borrow.Author.Needs.{needs}
 use Rattle.field.proofs.Element.nonzero.Statement.{statement}
 use Rattle.field.proofs.Element.nonzero.Tie as tie

@@ -4,7 +4,7 @@ use Rattle.field.specs.Level.{levelAt, F, K}
 use Rattle.field.specs.Word.{words, word}
 use Rattle.field.specs.Packed.{Holds}
 use Rattle.field.proofs.Packing.{packs-sum}
-use Prim.Native.Nat.{ℕ, zero, suc, _-_, _<_}
+use Prim.Native.Nat.{ℕ, zero, suc, _<_}
 use mathlib.Core.Path.{_≡_, refl}
 use native.Mathlib.Omega.{arith}
 use lib.ListN.{getD}

@@ -1,4 +1,3 @@
-use Prim.Native.Nat.{_-_}
 use borrow.Author.Needs.{needs}
 use Rattle.field.proofs.Element.times.Statement.{statement}
 use Rattle.field.proofs.Element.times.Tie as tie

@@ -6,7 +6,6 @@ use Rattle.field.specs.Word.{number, list, word, words}
 use Rattle.field.specs.Packed.{lane, coordinate}
 use Rattle.field.proofs.Packing.{coordinates}
 use Rattle.field.proofs.Elements.{holds-list}
-use Prim.Native.Nat.{_-_}
 use mathlib.Core.Path.{refl}
 use Rattle.field.proofs.Element.y.Statement.{statement}
 use Rattle.field.proofs.Element.y.Tie as tie

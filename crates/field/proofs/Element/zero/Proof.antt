@@ -5,7 +5,7 @@ use Rattle.field.specs.Word.{number, list, word, words}
 use Rattle.field.specs.Packed.{lane, coordinate}
 use Rattle.field.proofs.Packing.{coordinates}
 use Rattle.field.proofs.Elements.{holds-list}
-use Prim.Native.Nat.{zero, _-_}
+use Prim.Native.Nat.{zero}
 use mathlib.Core.Path.{refl}
 use Rattle.field.proofs.Element.zero.Statement.{statement}
 use Rattle.field.proofs.Element.zero.Tie as tie

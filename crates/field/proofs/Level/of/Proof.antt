@@ -1,5 +1,4 @@
 use Rattle.field.specs.Level.{levelAt}
-use Prim.Native.Nat.{_-_}
 use mathlib.Core.Path.{refl}
 use borrow.Author.Needs.{needs}
 use Rattle.field.proofs.Level.of.Statement.{statement}

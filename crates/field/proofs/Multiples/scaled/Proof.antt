@@ -1,5 +1,4 @@
 use Rattle.field.specs.Level.{levelAt}
-use Prim.Native.Nat.{_-_}
 use native.Mathlib.Omega.{arith}
 use borrow.Author.Needs.{needs}
 use Rattle.field.proofs.Multiples.scaled.Statement.{statement}

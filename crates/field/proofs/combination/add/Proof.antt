@@ -7,7 +7,7 @@ use lib.ListN.{length, drop}
 use Rattle.field.specs.Binary.{bit}
 use Rattle.field.specs.Level.{levelAt, first, K, embed}
 use Rattle.field.specs.Word.{odd, small}
-use Rattle.field.specs.Packed.{Holds, Combines}
+use Rattle.field.specs.Packed.{Holds}
 use Rattle.field.proofs.PartLaws.{combined-add, combined-digits}
 use Rattle.field.proofs.combination.add.Statement.{statement}
 use Rattle.field.proofs.combination.add.Tie as tie

@@ -8,7 +8,7 @@ use lib.ListN.{getD, drop}
 use lib.Seq.{getD-drop}
 use Rattle.field.specs.Level.{levelAt, first, K, embed}
 use Rattle.field.specs.Word.{small}
-use Rattle.field.specs.Packed.{Holds, Combines, combined}
+use Rattle.field.specs.Packed.{Holds, combined}
 use Rattle.field.proofs.Elements.{holds-same}
 use Rattle.field.proofs.PartLaws.{combined-more}
 use Rattle.field.proofs.combination.total.Statement.{statement}

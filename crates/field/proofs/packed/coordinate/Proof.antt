@@ -1,5 +1,5 @@
 use Rattle.field.proofs.Packing.{coordinate-is, lane-shift}
-use Prim.Native.Nat.{_-_, _/_, _%_}
+use Prim.Native.Nat.{_/_, _%_}
 use mathlib.Core.Path.{sym, _∙_}
 use lib.ListN.{getD}
 use borrow.Author.Needs.{needs}

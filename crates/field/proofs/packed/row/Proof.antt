@@ -3,7 +3,7 @@ use Rattle.field.specs.Level.{first, levelAt, K, embed}
 use Rattle.field.specs.Word.{small, words}
 use Rattle.field.specs.Packed.{lane, Holds}
 use Rattle.field.proofs.Packing.{by-lanes}
-use Prim.Native.Nat.{ℕ, zero, suc, _+_, _-_, _*_, _<_}
+use Prim.Native.Nat.{ℕ, zero, suc, _+_, _*_, _<_}
 use mathlib.Core.Path.{_≡_}
 use native.Mathlib.Omega.{arith}
 use lib.ListN.{getD}

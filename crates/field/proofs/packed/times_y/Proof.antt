@@ -6,7 +6,7 @@ use Rattle.field.specs.Word.{words, word}
 use Rattle.field.specs.Packed.{lane, coordinate, Holds}
 use Rattle.field.proofs.Coordinate.{wordAt}
 use Rattle.field.proofs.Packing.{coordinate-is, lane-shift, packs-Y}
-use Prim.Native.Nat.{ℕ, zero, suc, _-_, _*_, _/_, _%_, _^_, _<_}
+use Prim.Native.Nat.{ℕ, zero, suc, _*_, _/_, _%_, _^_, _<_}
 use mathlib.Core.Path.{_≡_, refl, sym, ap, _∙_}
 use native.Mathlib.Omega.{arith}
 use lib.ListN.{getD}

@@ -7,7 +7,7 @@ use Rattle.field.specs.Word.{digits}
 use Rattle.field.specs.Packed.{lane}
 use Rattle.field.proofs.Number.{timesX-number}
 use Rattle.field.proofs.Packing.{lane-Z}
-use Prim.Native.Nat.{ℕ, zero, suc, _-_, _/_, _^_, _<_}
+use Prim.Native.Nat.{ℕ, zero, suc, _/_, _^_, _<_}
 use mathlib.Core.Path.{_≡_, refl, sym}
 use native.Mathlib.Omega.{arith}
 use Rattle.field.proofs.packed.times_z.Statement.{statement}

@@ -1,5 +1,4 @@
 use Rattle.field.proofs.Lanes.{lane-up-zero, lane-up-suc}
-use Prim.Native.Nat.{_-_}
 use borrow.Author.Needs.{needs}
 use Rattle.field.proofs.packed.up.Statement.{statement}
 use Rattle.field.proofs.packed.up.Tie as tie

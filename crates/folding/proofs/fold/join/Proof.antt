@@ -1,4 +1,3 @@
-use mathlib.Core.Bool.{Bool}
 use mathlib.Core.Path.{subst, _≡_, refl, sym, _∙_}
 use Prim.Native.Nat.{ℕ, _+_, _-_, _≤_, _<_}
 use native.Mathlib.Nat.{le-refl}

@@ -1,5 +1,5 @@
 use mathlib.Core.Path.{subst, sym, _∙_}
-use Prim.Native.Nat.{ℕ, _+_, _*_, _%_, _^_, _<_}
+use Prim.Native.Nat.{ℕ, _+_, _*_, _^_}
 use native.Mathlib.Omega.{arith}
 use borrow.Author.Needs.{needs}
 use lib.ListN.{length}
@@ -11,7 +11,7 @@ use Rattle.row.specs.Lent.{smallOf}
 use Rattle.row.specs.Polynomial.{sum, digit, z}
 use Rattle.row.specs.Step.{Step}
 use Rattle.row.proofs.ElementLaws.{fits-le}
-use Rattle.row.proofs.NumberLaws.{many, pos, room-one}
+use Rattle.row.proofs.NumberLaws.{room-one}
 use Rattle.folding.specs.Weights.{leaf}
 use Rattle.folding.specs.Steps.{Leaves}
 use Rattle.folding.proofs.WeightLaws.{added-same, leaves-sum}

@@ -1,12 +1,12 @@
-use mathlib.Core.Path.{_≡_, refl, sym, ap, _∙_}
-use Prim.Native.Nat.{ℕ, _+_, _*_, _^_, _≤_, _<_}
+use mathlib.Core.Path.{_≡_, refl, ap, _∙_}
+use Prim.Native.Nat.{_+_, _*_, _^_}
 use native.Mathlib.Omega.{arith}
 use borrow.Author.Needs.{needs}
 use lib.ListN.{length}
 use Rattle.field.specs.Level.{levelAt, K}
 use Rattle.field.specs.RingLaws.{zero-add}
 use Rattle.field.specs.declared.Level.{Level}
-use Rattle.row.specs.Elements.{el, Fits}
+use Rattle.row.specs.Elements.{el}
 use Rattle.row.specs.Lent.{smallOf, entryOf, digitOf, elementOf}
 use Rattle.row.specs.Polynomial.{sum, z}
 use Rattle.row.proofs.ElementLaws.{fits-le, fits-all, cleared-words, cleared-el}

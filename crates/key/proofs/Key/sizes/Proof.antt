@@ -9,7 +9,7 @@ use Rattle.field.specs.declared.Level.{Level}
 use Rattle.field.specs.Level.{levelAt}
 use Rattle.key.specs.declared.Key.{Key}
 use Rattle.key.specs.Key.{sizes}
-use Prim.Native.Nat.{ℕ, _-_, _≤_, _<_}
+use Prim.Native.Nat.{ℕ, _≤_, _<_}
 use mathlib.Core.Path.{_≡_, sym, _∙_}
 use borrow.Author.Needs.{needs}
 use Rattle.key.proofs.Key.sizes.Statement.{statement}

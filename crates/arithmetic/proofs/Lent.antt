@@ -18,19 +18,19 @@ use Rattle.arithmetic.specs.Entry.{long, rows}
 use Rattle.field.proofs.Elements.{words-length, words-element-lt}
 
 pub record Lent (a b out : List ℕ) : Type 0 where
-  pub a-length : length a ≡ 12
-  pub b-length : length b ≡ 12
-  pub out-length : length out ≡ 12
-  pub a-words : part 0 12 a ≡ words first (element first a)
-  pub b-words : part 0 12 b ≡ words first (element first b)
+  pub a-length : length a ≡ first .coordinates
+  pub b-length : length b ≡ first .coordinates
+  pub out-length : length out ≡ first .coordinates
+  pub a-words : part 0 (first .coordinates) a ≡ words first (element first a)
+  pub b-words : part 0 (first .coordinates) b ≡ words first (element first b)
 
 -- words within the limit are those of an element
-pub within-words : (s : List ℕ) → length s ≡ 12 → within first s ≡ true → part 0 12 s ≡ words first (element first s)
+pub within-words : (s : List ℕ) → length s ≡ first .coordinates → within first s ≡ true → part 0 (first .coordinates) s ≡ words first (element first s)
 unfolding within
-within-words s n e = part-whole 12 s n ∙ sym (words-element-lt first s n below)
+within-words s n e = part-whole (first .coordinates) s n ∙ sym (words-element-lt first s n below)
   where
-    below : (i : ℕ) → i < 12 → getD s i 0 < 2 ^ 11
-    below i h = omega (arith, leb-true (getD s i 0) 2047 (all-at (λ x. leb x 2047) s e i (omega arith)))
+    below : (i : ℕ) → i < first .coordinates → getD s i 0 < 2 ^ first .width
+    below i h = omega (arith, leb-true (getD s i 0) (first .limit) (all-at (λ x. leb x (first .limit)) s e i (omega arith)))
 
 -- the rows after each that concerns a length, and after those
 module _ (a b out : List ℕ) where
@@ -49,16 +49,16 @@ module _ (a b out : List ℕ) where
   pub lent : firstOf (rows a b out) ≡ Done → Lent a b out
   lent e =
       let f = none (rows a b out) e in
-      let la : length a ≡ 12 = eqb-true (length a) 12 (not-false (long a) (f .0)) in
-      let lb : length b ≡ 12 = eqb-true (length b) 12 (not-false (long b) (f .1 .0)) in
+      let la : length a ≡ first .coordinates = eqb-true (length a) (first .coordinates) (not-false (long a) (f .0)) in
+      let lb : length b ≡ first .coordinates = eqb-true (length b) (first .coordinates) (not-false (long b) (f .1 .0)) in
       record {
         a-length = la;
         b-length = lb;
-        out-length = eqb-true (length out) 12 (not-false (long out) (f .1 .1 .0));
+        out-length = eqb-true (length out) (first .coordinates) (not-false (long out) (f .1 .1 .0));
         a-words = within-words a la (not-false (within first a) (f .1 .1 .1 .0));
         b-words = within-words b lb (not-false (within first b) (f .1 .1 .1 .1 .0));
       }
 
 -- an element stored in a slice as long
-pub stored : (s : List ℕ) {t : List ℕ} (x : K first .Carrier) → length s ≡ 12 → t ≡ put 0 (words first x) s → t ≡ words first x
+pub stored : (s : List ℕ) {t : List ℕ} (x : K first .Carrier) → length s ≡ first .coordinates → t ≡ put 0 (words first x) s → t ≡ words first x
 stored s x n e = e ∙ put-whole (words first x) s (words-length first x ∙ sym n)

@@ -41,7 +41,7 @@ nonzero-requires : tie.Need-nonzero-requires
 nonzero-requires c κs =
     let s = c .before .before .before .before .before .before .before .before .before .before .before .before .before .before in
     let t = c .before .before .before .before .before .tops .ensures in
-    (t .words, fits-le (levelAt 1) (s .args .key .n + s .args .key .m) (s .args .key .n + s .args .key .m) (omega arith) (t .same) (elements s))
+    (t .words, fits-le (levelAt 1) _ (s .args .key .n + s .args .key .m) (omega (arith, s .pre .0 .0 .two)) (t .same) (elements s))
 
 same-length : tie.Need-same-length
 same-length c = c .before .before .before .before .before .before .tops .ensures .same

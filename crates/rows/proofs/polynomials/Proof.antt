@@ -91,7 +91,7 @@ row-requires c κs =
         w .4,
         c .before .before .before .loop-test .taken,
         fits-le (L s) (n * s .args .n + n * s .args .m) (n * (s .args .n + s .args .m)) (omega (arith, mul-add n (s .args .n) (s .args .m))) (dst-length (c .before .before .before .before)) (all s),
-        fits-le (L s) (l .at + s .args .d) (s .args .d * s .args .n) (inside (c .before .before .before)) refl (fits-all (L s) (s .args .d * s .args .n) (w .2) (p .1)),
+        fits-le (L s) _ (s .args .d * s .args .n) (omega (arith, inside (c .before .before .before))) refl (fits-all (L s) (s .args .d * s .args .n) (w .2) (p .1)),
         fits-le (L s) (n * 2 ^ s .args .d) (n * 2 ^ s .args .d) (omega arith) (work-length (c .before .before .before .before)) (p .3),
       ),
     )

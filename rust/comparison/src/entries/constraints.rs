@@ -4,7 +4,7 @@ use super::keyed::{self, set_bytes, set_words, Keyed, Slice, DELTA, H, POSITIONS
 use super::rounds::{self, Round};
 use super::witnesses;
 use super::{number, DONE};
-use crate::case::{Case, Entry, Group, Least, Stated};
+use crate::case::{Case, Entry, Group, Stated};
 use crate::perk;
 use reference::constraint::masked_witness;
 use reference::key::{bits, rows, witness, Sizes};
@@ -72,12 +72,7 @@ pub const CONSTRAINTS: Entry = Entry {
         keyed::two_faults::<Constraints>(),
         keyed::random_faults::<Constraints>(),
     ],
-    least: &[Least {
-        group: LARGEST.name,
-        n: &[rounds::LARGEST],
-        answer: DONE,
-        count: 40,
-    }],
+    least: &[rounds::done_at_largest(LARGEST.name)],
 };
 
 /// The entry values.
@@ -110,12 +105,7 @@ pub const VALUES: Entry = Entry {
         keyed::two_faults::<Values>(),
         keyed::random_faults::<Values>(),
     ],
-    least: &[Least {
-        group: VALUES_LARGEST.name,
-        n: &[rounds::LARGEST],
-        answer: DONE,
-        count: 40,
-    }],
+    least: &[rounds::done_at_largest(VALUES_LARGEST.name)],
 };
 
 /// Positions below n that are no order: one of them twice, or all the same.

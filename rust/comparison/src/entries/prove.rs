@@ -91,18 +91,8 @@ pub const PROVE: Entry = Entry {
         },
     ],
     least: &[
-        Least {
-            group: LARGEST.name,
-            n: &[rounds::LARGEST],
-            answer: DONE,
-            count: 40,
-        },
-        Least {
-            group: ABOVE_A_POWER.name,
-            n: &rounds::ABOVE_A_POWER,
-            answer: DONE,
-            count: 12,
-        },
+        rounds::done_at_largest(LARGEST.name),
+        rounds::done_above_a_power(ABOVE_A_POWER.name),
         Least {
             group: UNSOLVED.name,
             n: &UNSOLVED_N,

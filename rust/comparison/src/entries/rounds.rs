@@ -1,7 +1,8 @@
 //! Rounds at the largest size, and at sizes just above a power of two, where
 //! many of the 2^d columns have no weight: the sizes, and what each slice holds.
 
-use super::keyed;
+use super::{keyed, DONE};
+use crate::case::Least;
 use reference::key::Sizes;
 use reference::large_field::{COORDINATES, K};
 use reference::samples::Generator;
@@ -18,6 +19,26 @@ const PAIRS: usize = 25;
 
 /// The rounds at the largest size, and at each of the others.
 const ROUNDS: [usize; 2] = [40, PAIRS];
+
+/// The least number of done calls of a group at the largest size.
+pub const fn done_at_largest(group: &'static str) -> Least {
+    Least {
+        group,
+        n: &[LARGEST],
+        answer: DONE,
+        count: 40,
+    }
+}
+
+/// The same at each size just above a power of two.
+pub const fn done_above_a_power(group: &'static str) -> Least {
+    Least {
+        group,
+        n: &ABOVE_A_POWER,
+        answer: DONE,
+        count: 12,
+    }
+}
 
 /// One round: its number, the sizes, and the kinds of six slices.
 pub struct Round {

@@ -4,7 +4,7 @@ use super::keyed::{self, set_bytes, set_words, Keyed, Slice, DELTA, H, Q, T, X};
 use super::rounds::{self, Round};
 use super::witnesses;
 use super::{DONE, REJECTED};
-use crate::case::{Case, Entry, Group, Least};
+use crate::case::{Case, Entry, Group};
 use crate::lent::Lent;
 use crate::perk;
 use reference::key::{elements_of_k, Sizes};
@@ -75,18 +75,8 @@ pub const VERIFY: Entry = Entry {
         keyed::random_faults::<Verify>(),
     ],
     least: &[
-        Least {
-            group: LARGEST.name,
-            n: &[rounds::LARGEST],
-            answer: DONE,
-            count: 40,
-        },
-        Least {
-            group: ABOVE_A_POWER.name,
-            n: &rounds::ABOVE_A_POWER,
-            answer: DONE,
-            count: 12,
-        },
+        rounds::done_at_largest(LARGEST.name),
+        rounds::done_above_a_power(ABOVE_A_POWER.name),
     ],
 };
 

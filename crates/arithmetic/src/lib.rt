@@ -3,6 +3,7 @@ ghost use mathlib.Core.Path.{_≡_};
 ghost use Rattle.refusal.specs.Answer.{firstOf};
 ghost use Rattle.arithmetic.specs.Entry.{rows, sumOutcome, productOutcome};
 use field::Element;
+use field::FIRST;
 use field::Level;
 use refusal::Answer;
 use refusal::Refusal;
@@ -11,7 +12,7 @@ use refusal::Refusal;
 fn refused(a: &[u16], b: &[u16], out: &[u16]) -> Answer
     ensures { λ r. ⌜ r ≡ firstOf (rows (now (a .entry)) (now (b .entry)) (now (out .entry))) ⌝ }
 {
-    let level = Level::of(1);
+    let level = Level::of(FIRST);
     let n = level.coordinates;
     if a.len() != n {
         return Answer::Refused(Refusal::LENGTH);
@@ -22,10 +23,10 @@ fn refused(a: &[u16], b: &[u16], out: &[u16]) -> Answer
     if out.len() != n {
         return Answer::Refused(Refusal::LENGTH);
     }
-    if field::excess(a, 1) != 0 {
+    if field::excess(a, FIRST) != 0 {
         return Answer::Refused(Refusal::COORDINATE);
     }
-    if field::excess(b, 1) != 0 {
+    if field::excess(b, FIRST) != 0 {
         return Answer::Refused(Refusal::COORDINATE);
     }
     Answer::Done
@@ -38,10 +39,10 @@ pub fn sum(a: &[u16], b: &[u16], out: &mut [u16]) -> Answer
     let answer = refused(a, b, out);
     match answer {
         Answer::Done => {
-            let x = Element::load(a, 0, 1);
-            let y = Element::load(b, 0, 1);
-            let total = x.plus(y, 1);
-            total.store(out, 0, 1);
+            let x = Element::load(a, 0, FIRST);
+            let y = Element::load(b, 0, FIRST);
+            let total = x.plus(y, FIRST);
+            total.store(out, 0, FIRST);
         }
         Answer::Refused(_) => {}
     }
@@ -55,10 +56,10 @@ pub fn product(a: &[u16], b: &[u16], out: &mut [u16]) -> Answer
     let answer = refused(a, b, out);
     match answer {
         Answer::Done => {
-            let x = Element::load(a, 0, 1);
-            let y = Element::load(b, 0, 1);
-            let result = x.times(y, 1);
-            result.store(out, 0, 1);
+            let x = Element::load(a, 0, FIRST);
+            let y = Element::load(b, 0, FIRST);
+            let result = x.times(y, FIRST);
+            result.store(out, 0, FIRST);
         }
         Answer::Refused(_) => {}
     }

@@ -7,7 +7,7 @@ use Rattle.refusal.specs.Answer.{firstOf}
 use Rattle.refusal.specs.declared.Answer.{Answer}
 use Rattle.refusal.specs.declared.Answer.the-variants.{Done, Refused}
 use Rattle.refusal.specs.declared.Verdict.{Verdict}
-use Rattle.field.specs.Level.{levelAt}
+use Rattle.field.specs.Level.{FIRST, levelAt}
 use Rattle.key.specs.declared.Key.{Key}
 use Rattle.layout.specs.declared.Row.{Row}
 use Rattle.layout.specs.Layout.{checkFileRows}
@@ -23,10 +23,10 @@ fields-only Done c e = (refl, cc)
 fields-only (Refused r) c e = let z : _≡_ {A = ℕ} 0 1 = cc in absurd (omega arith)
 
 -- a reader that answers with contents refuses nothing, and they have the file's key
-pub read-accepts : (rows : Key → List Row) (s : List ℕ) {c : Contents} → reading (levelAt 1) rows s ≡ read.Fields c → (firstOf (fileTests (levelAt 1) (rows (keyOf s)) s) ≡ Done) × (record { n = c .n; m = c .m } ≡ keyOf s)
+pub read-accepts : (rows : Key → List Row) (s : List ℕ) {c : Contents} → reading (levelAt FIRST) rows s ≡ read.Fields c → (firstOf (fileTests (levelAt FIRST) (rows (keyOf s)) s) ≡ Done) × (record { n = c .n; m = c .m } ≡ keyOf s)
 read-accepts rows s e =
-    let f = fields-only (firstOf (fileTests (levelAt 1) (rows (keyOf s)) s)) _ e in
+    let f = fields-only (firstOf (fileTests (levelAt FIRST) (rows (keyOf s)) s)) _ e in
     (f .0, ap (λ (c : Contents). record { n = c .n; m = c .m }) (sym (f .1)))
 
-pub told : (s : List ℕ) {r : Read} {v : Verdict} → r ≡ reading (levelAt 1) (checkFileRows (levelAt 1)) s → v ≡ verdictOf (levelAt 1) (packageOf (levelAt 1) s) (checkOf (levelAt 1) s) → answered r v ≡ checking (levelAt 1) s
+pub told : (s : List ℕ) {r : Read} {v : Verdict} → r ≡ reading (levelAt FIRST) (checkFileRows (levelAt FIRST)) s → v ≡ verdictOf (levelAt FIRST) (packageOf (levelAt FIRST) s) (checkOf (levelAt FIRST) s) → answered r v ≡ checking (levelAt FIRST) s
 told s e f = ap₂ answered e f

@@ -17,7 +17,7 @@ use Rattle.refusal.specs.declared.Verdict.{Verdict}
 use Rattle.refusal.specs.declared.Verdict.the-variants as verdict
 use Rattle.refusal.proofs.Answers.{None, none}
 use Rattle.field.specs.declared.Level.{Level}
-use Rattle.field.specs.Level.{levelAt}
+use Rattle.field.specs.Level.{FIRST, levelAt}
 use Rattle.key.specs.declared.Key.{Key}
 use Rattle.field.specs.Word.{within}
 use Rattle.key.specs.Key.{Sized, lengths, below, withins}
@@ -66,16 +66,16 @@ verify-done l key h x t q Δ masks α a sized lent eh ex et eq eΔ emasks eα ea
   positions-fine = refl;
 })
 
-module _ (s : List ℕ) (e : Accepts (levelAt 1) s) where
+module _ (s : List ℕ) (e : Accepts (levelAt FIRST) s) where
   -- a content, by the reader's answer
   abbrev under : Answer → ℕ → List ℕ
-  under a tag = let p = partIf a (partOf tag 0 (checkFileRows (levelAt 1) (keyOf s))) in part (p .start) (p .len) s
+  under a tag = let p = partIf a (partOf tag 0 (checkFileRows (levelAt FIRST) (keyOf s))) in part (p .start) (p .len) s
 
   abbrev testsUnder : Answer → List (Bool × ℕ)
-  testsUnder a = verifyRows (levelAt 1) (keyOf s) (words (under a 0x02)) (words (under a 0x03)) (under a 0x06) (words (under a 0x11)) (words (under a 0x13)) (words (under a 0x12)) (words (under a 0x14)) (words (under a 0x07))
+  testsUnder a = verifyRows (levelAt FIRST) (keyOf s) (words (under a 0x02)) (words (under a 0x03)) (under a 0x06) (words (under a 0x11)) (words (under a 0x13)) (words (under a 0x12)) (words (under a 0x14)) (words (under a 0x07))
 
-  passes : Each (levelAt 1) s 0 (checkFileRows (levelAt 1) (keyOf s))
-  passes = each (levelAt 1) s 0 (checkFileRows (levelAt 1) (keyOf s)) (none-append (tests (levelAt 1) s 0 (checkFileRows (levelAt 1) (keyOf s))) _ (none (fileTests (levelAt 1) (checkFileRows (levelAt 1) (keyOf s)) s) e) .0)
+  passes : Each (levelAt FIRST) s 0 (checkFileRows (levelAt FIRST) (keyOf s))
+  passes = each (levelAt FIRST) s 0 (checkFileRows (levelAt FIRST) (keyOf s)) (none-append (tests (levelAt FIRST) s 0 (checkFileRows (levelAt FIRST) (keyOf s))) _ (none (fileTests (levelAt FIRST) (checkFileRows (levelAt FIRST) (keyOf s)) s) e) .0)
 
   not-refused : firstOf (testsUnder Done) ≡ Done
   unfolding checkFileRows packageRows partOf
@@ -88,7 +88,7 @@ module _ (s : List ℕ) (e : Accepts (levelAt 1) s) where
       let masks = q .2 in
       let delta = masks .2 in
       let alpha = delta .2 in
-      verify-done (levelAt 1) (keyOf s) (words (under Done 0x02)) (words (under Done 0x03)) (under Done 0x06) (words (under Done 0x11)) (words (under Done 0x13)) (words (under Done 0x12)) (words (under Done 0x14)) (words (under Done 0x07))
+      verify-done (levelAt FIRST) (keyOf s) (words (under Done 0x02)) (words (under Done 0x03)) (under Done 0x06) (words (under Done 0x11)) (words (under Done 0x13)) (words (under Done 0x12)) (words (under Done 0x14)) (words (under Done 0x07))
       (is-sized s e)
       (words-length _ _ (h .0), (words-length _ _ (x .0), (t .0, (words-length _ _ (q .0), (words-length _ _ (delta .0), (words-length _ _ (masks .0), (words-length _ _ (alpha .0), (words-length _ _ (a .0), tt))))))))
       (not-false _ (h .1 .0))
@@ -100,7 +100,7 @@ module _ (s : List ℕ) (e : Accepts (levelAt 1) s) where
       (not-false _ (alpha .1 .0))
       (not-false _ (a .1 .0))
 
-  never-refused : firstOf (verifyTests (levelAt 1) (packageOf (levelAt 1) s) (checkOf (levelAt 1) s)) ≡ Done
+  never-refused : firstOf (verifyTests (levelAt FIRST) (packageOf (levelAt FIRST) s) (checkOf (levelAt FIRST) s)) ≡ Done
   never-refused = ap (λ a. firstOf (testsUnder a)) e ∙ not-refused
 
 -- an answer with contents tells the verdict
@@ -114,14 +114,14 @@ rejected-verdict c verdict.Accepted e = let z : _≡_ {A = ℕ} 0 1 = cc in absu
 rejected-verdict c verdict.Rejected e = refl
 rejected-verdict c (verdict.Refused r) e = let z : _≡_ {A = ℕ} 0 1 = cc in absurd (omega arith)
 
-pub judged : (s : List ℕ) (c : Contents) → reading (levelAt 1) (checkFileRows (levelAt 1)) s ≡ Fields c → Judged (levelAt 1) s c
+pub judged : (s : List ℕ) (c : Contents) → reading (levelAt FIRST) (checkFileRows (levelAt FIRST)) s ≡ Fields c → Judged (levelAt FIRST) s c
 judged s c e =
-    let p = packageOf (levelAt 1) s in
-    let k = checkOf (levelAt 1) s in
-    let v = verdictOf (levelAt 1) p k in
-    let done = never-refused s (read-accepts (checkFileRows (levelAt 1)) s e .0) in
-    let is : checking (levelAt 1) s ≡ answered (Fields c) v = ap (λ r. answered r v) e in
-    let w = verifier.told (levelAt 1) (p .key) (p .h) (p .x) (p .t) (k .q) (k .delta) (k .masks) (k .alpha) (p .a) refl refl refl refl refl in
+    let p = packageOf (levelAt FIRST) s in
+    let k = checkOf (levelAt FIRST) s in
+    let v = verdictOf (levelAt FIRST) p k in
+    let done = never-refused s (read-accepts (checkFileRows (levelAt FIRST)) s e .0) in
+    let is : checking (levelAt FIRST) s ≡ answered (Fields c) v = ap (λ r. answered r v) e in
+    let w = verifier.told (levelAt FIRST) (p .key) (p .h) (p .x) (p .t) (k .q) (k .delta) (k .masks) (k .alpha) (p .a) refl refl refl refl refl in
     record {
       never-refused = done;
       accepted = (
@@ -135,14 +135,14 @@ judged s c e =
     }
 
 -- the contents of a file that is written are the data
-pub checks : (p : Package) (c : Check) → Checks (levelAt 1) p c
+pub checks : (p : Package) (c : Check) → Checks (levelAt FIRST) p c
 unfolding contentOf
 checks p c v w =
-    let s = written (checkForm (levelAt 1)) (p, c) in
+    let s = written (checkForm (levelAt FIRST)) (p, c) in
     let f = check-file-faithful in
-    let at : (tag : ℕ) → content (levelAt 1) s tag ≡ contentOf tag (checkForm (levelAt 1) .fields (p, c)) = f .contents (p, c) (v, w) in
+    let at : (tag : ℕ) → content (levelAt FIRST) s tag ≡ contentOf tag (checkForm (levelAt FIRST) .fields (p, c)) = f .contents (p, c) (v, w) in
     let r = f .read (p, c) (v, w) in
-    let k = read-accepts (checkFileRows (levelAt 1)) s r .1 in
-    let is : verdictOf (levelAt 1) (packageOf (levelAt 1) s) (checkOf (levelAt 1) s) ≡ verdictOf (levelAt 1) p c =
+    let k = read-accepts (checkFileRows (levelAt FIRST)) s r .1 in
+    let is : verdictOf (levelAt FIRST) (packageOf (levelAt FIRST) s) (checkOf (levelAt FIRST) s) ≡ verdictOf (levelAt FIRST) p c =
     rw (at 0x02, at 0x03, at 0x06, at 0x07, at 0x11, at 0x12, at 0x13, at 0x14, words-bytes (p .h), words-bytes (p .x), words-bytes (p .a), words-bytes (c .q), words-bytes (c .masks), words-bytes (c .delta), words-bytes (c .alpha), sym k) in
     ap₂ answered r is

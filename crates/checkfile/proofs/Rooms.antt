@@ -7,8 +7,8 @@ use native.Mathlib.Omega.{arith}
 use lib.ListN.{length, length-take}
 use lib.Seq.{take-all}
 use Rattle.refusal.specs.Answer.{firstOf}
-use Rattle.field.specs.Level.{levelAt}
-use Rattle.field.proofs.Fields.{bounded}
+use Rattle.field.specs.Level.{FIRST, levelAt}
+use Rattle.field.proofs.Fields.{first-most, first-narrow}
 use Rattle.key.specs.declared.Key.{Key}
 use Rattle.key.specs.Key.{Sized, degree}
 use Rattle.key.proofs.Sized.{degree-lt}
@@ -20,22 +20,22 @@ use Rattle.package.specs.Reading.{partIf}
 use Rattle.package.proofs.Accepted.{file-sized}
 use Rattle.checkfile.specs.Checking.{Accepts, content}
 
-module _ (s : List ℕ) (e : Accepts (levelAt 1) s) where
+module _ (s : List ℕ) (e : Accepts (levelAt FIRST) s) where
   abbrev key : Key
   key = keyOf s
 
-  pub is-sized : Sized (levelAt 1) key
-  is-sized = file-sized (levelAt 1) s 10 (omega arith) (ap (λ rows. firstOf (fileTests (levelAt 1) rows s)) (take-all 10 (checkFileRows (levelAt 1) key) (omega (arith, rows-length (levelAt 1) key))) ∙ e)
+  pub is-sized : Sized (levelAt FIRST) key
+  is-sized = file-sized (levelAt FIRST) s 10 (omega arith) (ap (λ rows. firstOf (fileTests (levelAt FIRST) rows s)) (take-all 10 (checkFileRows (levelAt FIRST) key) (omega (arith, rows-length (levelAt FIRST) key))) ∙ e)
 
   -- the part with a tag
   abbrev found : ℕ → Part
-  found tag = partOf tag 0 (checkFileRows (levelAt 1) key)
+  found tag = partOf tag 0 (checkFileRows (levelAt FIRST) key)
 
-  within : (tag k : ℕ) → found tag .len ≤ k → length (content (levelAt 1) s tag) ≤ k
+  within : (tag k : ℕ) → found tag .len ≤ k → length (content (levelAt FIRST) s tag) ≤ k
   within tag k h = let is = ap (λ a. partIf a (found tag)) e in rw (is, length-take) (omega arith)
 
   few : key .n ≤ 64
-  few = omega (arith, is-sized .most, bounded 1 .most)
+  few = omega (arith, is-sized .most, first-most)
 
   digits : degree (key .n) ≤ 6
   digits = omega (arith, degree-lt (key .n) 7 (omega (arith, is-sized .two)) (omega (arith, few)) (omega (arith, few)))
@@ -44,39 +44,39 @@ module _ (s : List ℕ) (e : Accepts (levelAt 1) s) where
   twice : {a b : ℕ} → a ≤ b → 2 * a ≤ 2 * b
   twice h = omega (arith, h)
 
-  pub matrix : length (content (levelAt 1) s 0x02) ≤ 8064
+  pub matrix : length (content (levelAt FIRST) s 0x02) ≤ 8064
   unfolding checkFileRows packageRows partOf
   matrix = within 0x02 8064 (twice (mul-le-mul rows few))
     where
       rows : key .m ≤ 63
       rows = omega (arith, few, is-sized .fewer)
 
-  pub vector : length (content (levelAt 1) s 0x03) ≤ 128
+  pub vector : length (content (levelAt FIRST) s 0x03) ≤ 128
   unfolding checkFileRows packageRows partOf
   vector = within 0x03 128 (twice few)
 
-  pub proof : length (content (levelAt 1) s 0x07) ≤ 144
+  pub proof : length (content (levelAt FIRST) s 0x07) ≤ 144
   unfolding checkFileRows packageRows partOf
-  proof = within 0x07 144 (twice (mul-le-mul (bounded 1 .narrow) digits))
+  proof = within 0x07 144 (twice (mul-le-mul first-narrow digits))
 
-  pub elements : length (content (levelAt 1) s 0x11) ≤ 9216
+  pub elements : length (content (levelAt FIRST) s 0x11) ≤ 9216
   unfolding checkFileRows packageRows partOf
-  elements = within 0x11 9216 (twice (mul-le-mul (bounded 1 .narrow) (mul-le-mul few digits)))
+  elements = within 0x11 9216 (twice (mul-le-mul first-narrow (mul-le-mul few digits)))
 
-  pub masks : length (content (levelAt 1) s 0x12) ≤ 120
+  pub masks : length (content (levelAt FIRST) s 0x12) ≤ 120
   unfolding checkFileRows packageRows partOf
-  masks = within 0x12 120 (twice (mul-le-mul (bounded 1 .narrow) less))
+  masks = within 0x12 120 (twice (mul-le-mul first-narrow less))
     where
       less : degree (key .n) - 1 ≤ 5
       less = omega (arith, digits)
 
-  pub one : length (content (levelAt 1) s 0x13) ≤ 24
+  pub one : length (content (levelAt FIRST) s 0x13) ≤ 24
   unfolding checkFileRows packageRows partOf
-  one = within 0x13 24 (twice (bounded 1 .narrow))
+  one = within 0x13 24 (twice first-narrow)
 
-  pub values : length (content (levelAt 1) s 0x14) ≤ 3048
+  pub values : length (content (levelAt FIRST) s 0x14) ≤ 3048
   unfolding checkFileRows packageRows partOf
-  values = within 0x14 3048 (twice (mul-le-mul (bounded 1 .narrow) sum))
+  values = within 0x14 3048 (twice (mul-le-mul first-narrow sum))
     where
       sum : key .n + key .m ≤ 127
       sum = omega (arith, few, is-sized .fewer)

@@ -4,7 +4,7 @@ ghost use mathlib.Core.List.{[], _∷_, _++_};
 ghost use Prim.Native.Nat.{_+_, _*_, _%_, _≤_, _<_};
 ghost use lib.ListN.{length, take};
 ghost use Rattle.lists.specs.Words.{put};
-ghost use Rattle.field.specs.Level.{levelAt};
+ghost use Rattle.field.specs.Level.{FIRST, levelAt};
 ghost use Rattle.layout.specs.Tests.{words, keyOf};
 ghost use Rattle.verifier.specs.Entry.{verifyOutcome};
 ghost use Rattle.checkfile.specs.Checking.{checkNumber, content, Accepts, packageOf, checkOf, verdictOf, checking};
@@ -74,16 +74,16 @@ fn words_into(c: &[u8], out: &mut [u16]) -> usize
 
 // The content of a field of an accepted check file as words, at the start of out; answers how many.
 fn load(bytes: &[u8], tag: u8, out: &mut [u16]) -> usize
-    requires { ⌜ Accepts (levelAt 1) (now bytes) × (length (content (levelAt 1) (now bytes) tag) ≤ 2 * length (now out)) ⌝ }
-    ensures { λ r. ⌜ (take r (now (out .exit)) ≡ words (content (levelAt 1) (now (bytes .entry)) tag)) × (r ≤ length (now (out .exit))) × (r ≡ length (take r (now (out .exit)))) ⌝ }
+    requires { ⌜ Accepts (levelAt FIRST) (now bytes) × (length (content (levelAt FIRST) (now bytes) tag) ≤ 2 * length (now out)) ⌝ }
+    ensures { λ r. ⌜ (take r (now (out .exit)) ≡ words (content (levelAt FIRST) (now (bytes .entry)) tag)) × (r ≤ length (now (out .exit))) × (r ≡ length (take r (now (out .exit)))) ⌝ }
 {
     words_into(package::check_field(bytes, tag), out)
 }
 
 // The verdict on an accepted check file whose H, x and a are lent as words.
 fn judge_with(bytes: &[u8], key: Key, h: &[u16], x: &[u16], a: &[u16]) -> Verdict
-    requires { ⌜ Accepts (levelAt 1) (now bytes) ⌝ }
-    ensures { λ r. ⌜ r ≡ verifyOutcome (levelAt 1) key (now (h .entry)) (now (x .entry)) (content (levelAt 1) (now (bytes .entry)) 0x06) (words (content (levelAt 1) (now (bytes .entry)) 0x11)) (words (content (levelAt 1) (now (bytes .entry)) 0x13)) (words (content (levelAt 1) (now (bytes .entry)) 0x12)) (words (content (levelAt 1) (now (bytes .entry)) 0x14)) (now (a .entry)) ⌝ }
+    requires { ⌜ Accepts (levelAt FIRST) (now bytes) ⌝ }
+    ensures { λ r. ⌜ r ≡ verifyOutcome (levelAt FIRST) key (now (h .entry)) (now (x .entry)) (content (levelAt FIRST) (now (bytes .entry)) 0x06) (words (content (levelAt FIRST) (now (bytes .entry)) 0x11)) (words (content (levelAt FIRST) (now (bytes .entry)) 0x13)) (words (content (levelAt FIRST) (now (bytes .entry)) 0x12)) (words (content (levelAt FIRST) (now (bytes .entry)) 0x14)) (now (a .entry)) ⌝ }
 {
     let mut q = [0u16; ELEMENTS];
     let q_len = load(bytes, 0x11, &mut q);
@@ -109,8 +109,8 @@ fn judge_with(bytes: &[u8], key: Key, h: &[u16], x: &[u16], a: &[u16]) -> Verdic
 
 // The verdict on an accepted check file with this key.
 fn judge(bytes: &[u8], key: Key) -> Verdict
-    requires { ⌜ Accepts (levelAt 1) (now bytes) × (key ≡ keyOf (now bytes)) ⌝ }
-    ensures { λ r. ⌜ r ≡ verdictOf (levelAt 1) (packageOf (levelAt 1) (now (bytes .entry))) (checkOf (levelAt 1) (now (bytes .entry))) ⌝ }
+    requires { ⌜ Accepts (levelAt FIRST) (now bytes) × (key ≡ keyOf (now bytes)) ⌝ }
+    ensures { λ r. ⌜ r ≡ verdictOf (levelAt FIRST) (packageOf (levelAt FIRST) (now (bytes .entry))) (checkOf (levelAt FIRST) (now (bytes .entry))) ⌝ }
 {
     let mut h = [0u16; MATRIX];
     let h_len = load(bytes, 0x02, &mut h);
@@ -123,7 +123,7 @@ fn judge(bytes: &[u8], key: Key) -> Verdict
 
 // Whether a check file's proof is accepted, with what the file says of itself, or the reader's refusal.
 pub fn check(bytes: &[u8]) -> Checked
-    ensures { λ r. ⌜ r ≡ checking (levelAt 1) (now (bytes .entry)) ⌝ }
+    ensures { λ r. ⌜ r ≡ checking (levelAt FIRST) (now (bytes .entry)) ⌝ }
 {
     match package::read_check_file(bytes) {
         Read::Refused(refusal) => Checked::Refused(refusal),

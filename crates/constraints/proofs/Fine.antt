@@ -12,8 +12,8 @@ use Rattle.lists.proofs.Lent.{each-long}
 use Rattle.refusal.specs.Answer.{firstOf}
 use Rattle.refusal.specs.declared.Answer.the-variants.{Done}
 use Rattle.field.specs.declared.Level.{Level}
-use Rattle.field.specs.Level.{levelAt}
-use Rattle.field.proofs.Fields.{Bounded, bounded}
+use Rattle.field.specs.Level.{FIRST, levelAt}
+use Rattle.field.proofs.Fields.{bounded, first-most, first-narrow}
 use Rattle.row.specs.Elements.{Fits, Words, Bits}
 use Rattle.row.specs.Lent.{LentKey}
 use Rattle.key.specs.declared.Key.{Key}
@@ -32,20 +32,17 @@ pub record Room (l : Level) (n : ℕ) : Type 0 where
   pub polynomials : Fits l ((degree n + 1) * 2 ^ degree n) 5376
   pub values : Fits l (2 ^ degree n) 768
 
-pub room : (number : ℕ) (key : Key) → Sized (levelAt number) key → Room (levelAt number) (key .n)
-room number key s = record {
+pub room : (key : Key) → Sized (levelAt FIRST) key → Room (levelAt FIRST) (key .n)
+room key s = record {
   some = omega (arith, s .two);
   d-lt = omega (arith, small);
   columns = degree-fits (key .n) (omega (arith, most));
-  polynomials = (mul-le-mul (b .narrow) all, omega (arith, all));
-  values = (mul-le-mul (b .narrow) power, omega (arith, power));
+  polynomials = (mul-le-mul first-narrow all, omega (arith, all));
+  values = (mul-le-mul first-narrow power, omega (arith, power));
 }
   where
-    b : Bounded (levelAt number)
-    b = bounded number
-
     most : key .n ≤ 64
-    most = omega (arith, s .most, b .most)
+    most = omega (arith, s .most, first-most)
 
     small : degree (key .n) < 7
     small = degree-lt (key .n) 7 (omega (arith, s .two)) (omega (arith, most)) (omega (arith, most))

@@ -6,7 +6,7 @@ ghost use lib.Dec.{eqb};
 ghost use lib.ListN.{length};
 ghost use Rattle.lists.specs.Lent.{long};
 ghost use Rattle.refusal.specs.Answer.{firstOf};
-ghost use Rattle.field.specs.Level.{levelAt};
+ghost use Rattle.field.specs.Level.{FIRST, levelAt};
 ghost use Rattle.row.specs.Elements.{Words, Bits};
 ghost use Rattle.row.specs.Lent.{LentKey};
 ghost use Rattle.key.specs.Key.{Sized, lengths};
@@ -14,6 +14,7 @@ ghost use Rattle.constraints.specs.Entry.{constraintsLent, constraintsRo
 ghost use Rattle.refusal.specs.declared.Answer.the-variants.{Done};
 ghost use Rattle.constraints.specs.Slices.{maskedBytes, polynomialWords, valueWords, witnessOf};
 ghost use Rattle.constraints.specs.Truth.{Truth};
+use field::FIRST;
 use key::Key;
 use refusal::Answer;
 
@@ -33,10 +34,10 @@ fn constraints_lengths(
     t: &[u8],
     p: &[u16],
 ) -> usize
-    requires { ⌜ Sized (levelAt 1) key ⌝ }
-    ensures { λ r. ⌜ eqb r 0 ≡ long (constraintsLent (lengths (levelAt 1) key) (now (h .entry)) (now (x .entry)) (now (positions .entry)) (now (u .entry)) (now (v .entry)) (now (t .entry)) (now (p .entry))) ⌝ }
+    requires { ⌜ Sized (levelAt FIRST) key ⌝ }
+    ensures { λ r. ⌜ eqb r 0 ≡ long (constraintsLent (lengths (levelAt FIRST) key) (now (h .entry)) (now (x .entry)) (now (positions .entry)) (now (u .entry)) (now (v .entry)) (now (t .entry)) (now (p .entry))) ⌝ }
 {
-    let n = key.lengths(1);
+    let n = key.lengths(FIRST);
     let outputs = (t.len() ^ n.bits) | (p.len() ^ n.polynomials);
     let material = (positions.len() ^ n.positions)
         | ((u.len() ^ n.bits) | ((v.len() ^ n.elements) | outputs));
@@ -54,20 +55,20 @@ fn constraints_refused(
     t: &[u8],
     p: &[u16],
 ) -> Answer
-    ensures { λ r. ⌜ r ≡ firstOf (constraintsRows (levelAt 1) key (now (h .entry)) (now (x .entry)) (now (positions .entry)) (now (u .entry)) (now (v .entry)) (now (t .entry)) (now (p .entry))) ⌝ }
+    ensures { λ r. ⌜ r ≡ firstOf (constraintsRows (levelAt FIRST) key (now (h .entry)) (now (x .entry)) (now (positions .entry)) (now (u .entry)) (now (v .entry)) (now (t .entry)) (now (p .entry))) ⌝ }
 {
-    let sizes = key.sizes(1);
+    let sizes = key.sizes(FIRST);
     if let Answer::Refused(_) = sizes {
         return sizes;
     }
     let lengths = constraints_lengths(key, h, x, positions, u, v, t, p);
-    let elements = field::excess(h, 1) | field::excess(x, 1);
+    let elements = field::excess(h, FIRST) | field::excess(x, FIRST);
     let positions = key::over(positions, key.degree());
     key::checks(
         lengths,
         elements,
         key::over(u, 1),
-        field::excess(v, 1),
+        field::excess(v, FIRST),
         positions,
     )
 }
@@ -82,10 +83,10 @@ fn values_lengths(
     delta: &[u16],
     p: &[u16],
 ) -> usize
-    requires { ⌜ Sized (levelAt 1) key ⌝ }
-    ensures { λ r. ⌜ eqb r 0 ≡ long (valuesLent (lengths (levelAt 1) key) (now (h .entry)) (now (x .entry)) (now (t .entry)) (now (q .entry)) (now (delta .entry)) (now (p .entry))) ⌝ }
+    requires { ⌜ Sized (levelAt FIRST) key ⌝ }
+    ensures { λ r. ⌜ eqb r 0 ≡ long (valuesLent (lengths (levelAt FIRST) key) (now (h .entry)) (now (x .entry)) (now (t .entry)) (now (q .entry)) (now (delta .entry)) (now (p .entry))) ⌝ }
 {
-    let n = key.lengths(1);
+    let n = key.lengths(FIRST);
     let material = (t.len() ^ n.bits)
         | ((q.len() ^ n.elements) | ((delta.len() ^ n.one) | (p.len() ^ n.values)));
     (h.len() ^ n.matrix) | ((x.len() ^ n.vector) | material)
@@ -101,23 +102,23 @@ fn values_refused(
     delta: &[u16],
     p: &[u16],
 ) -> Answer
-    ensures { λ r. ⌜ r ≡ firstOf (valuesRows (levelAt 1) key (now (h .entry)) (now (x .entry)) (now (t .entry)) (now (q .entry)) (now (delta .entry)) (now (p .entry))) ⌝ }
+    ensures { λ r. ⌜ r ≡ firstOf (valuesRows (levelAt FIRST) key (now (h .entry)) (now (x .entry)) (now (t .entry)) (now (q .entry)) (now (delta .entry)) (now (p .entry))) ⌝ }
 {
-    let sizes = key.sizes(1);
+    let sizes = key.sizes(FIRST);
     if let Answer::Refused(_) = sizes {
         return sizes;
     }
     let lengths = values_lengths(key, h, x, t, q, delta, p);
-    let elements = field::excess(h, 1) | field::excess(x, 1);
-    let coordinates = field::excess(q, 1) | field::excess(delta, 1);
+    let elements = field::excess(h, FIRST) | field::excess(x, FIRST);
+    let coordinates = field::excess(q, FIRST) | field::excess(delta, FIRST);
     key::checks(lengths, elements, key::over(t, 1), coordinates, 0)
 }
 
 // Writes the masked witness.
 pub fn write_masked_witness(key: Key, positions: &[u8], u: &[u8], t: &mut [u8])
-    requires { ⌜ Sized (levelAt 1) key × Bits (now u) ⌝ }
-    requires { ⌜ (length (now positions) ≡ lengths (levelAt 1) key .positions) × (length (now u) ≡ lengths (levelAt 1) key .bits) × (length (now t) ≡ lengths (levelAt 1) key .bits) ⌝ }
-    ensures { λ _. ⌜ ((h x : List ℕ) → now (t .exit) ≡ maskedBytes (system (levelAt 1) key h x) (witnessOf (key .n) (now (positions .entry))) (now (u .entry))) ⌝ }
+    requires { ⌜ Sized (levelAt FIRST) key × Bits (now u) ⌝ }
+    requires { ⌜ (length (now positions) ≡ lengths (levelAt FIRST) key .positions) × (length (now u) ≡ lengths (levelAt FIRST) key .bits) × (length (now t) ≡ lengths (levelAt FIRST) key .bits) ⌝ }
+    ensures { λ _. ⌜ ((h x : List ℕ) → now (t .exit) ≡ maskedBytes (system (levelAt FIRST) key h x) (witnessOf (key .n) (now (positions .entry))) (now (u .entry))) ⌝ }
 {
     let n = key.n;
     rows::masked_witness(t, positions, u, n, key.degree());
@@ -125,14 +126,14 @@ pub fn write_masked_witness(key: Key, positions: &[u8], u: &[u8], t: &mut [u8])
 
 // Writes the polynomials.
 pub fn write_polynomials(key: Key, h: &[u16], x: &[u16], positions: &[u8], v: &[u16], p: &mut [u16])
-    requires { ⌜ Sized (levelAt 1) key × LentKey (levelAt 1) (key .n) (key .m) (now h) (now x) × Words (levelAt 1) (now v) ⌝ }
-    requires { ⌜ (length (now positions) ≡ lengths (levelAt 1) key .positions) × (length (now v) ≡ lengths (levelAt 1) key .elements) × (length (now p) ≡ lengths (levelAt 1) key .polynomials) ⌝ }
-    ensures { λ _. ⌜ now (p .exit) ≡ polynomialWords (levelAt 1) (system (levelAt 1) key (now (h .entry)) (now (x .entry))) (witnessOf (key .n) (now (positions .entry))) (now (v .entry)) ⌝ }
+    requires { ⌜ Sized (levelAt FIRST) key × LentKey (levelAt FIRST) (key .n) (key .m) (now h) (now x) × Words (levelAt FIRST) (now v) ⌝ }
+    requires { ⌜ (length (now positions) ≡ lengths (levelAt FIRST) key .positions) × (length (now v) ≡ lengths (levelAt FIRST) key .elements) × (length (now p) ≡ lengths (levelAt FIRST) key .polynomials) ⌝ }
+    ensures { λ _. ⌜ now (p .exit) ≡ polynomialWords (levelAt FIRST) (system (levelAt FIRST) key (now (h .entry)) (now (x .entry))) (witnessOf (key .n) (now (positions .entry))) (now (v .entry)) ⌝ }
 {
     let n = key.n;
     let m = key.m;
     let mut work = [0u16; POLYNOMIALS];
-    rows::polynomials(p, n, m, key.degree(), h, x, positions, v, &mut work, 1);
+    rows::polynomials(p, n, m, key.degree(), h, x, positions, v, &mut work, FIRST);
 }
 
 // Writes t, the masked witness, and all polynomials, polynomial 0 first.
@@ -146,8 +147,8 @@ pub fn constraints(
     t: &mut [u8],
     polynomials: &mut [u16],
 ) -> Answer
-    ensures outcome { λ r. ⌜ (r, (now (t .exit), now (polynomials .exit))) ≡ constraintsOutcome (levelAt 1) key (now (h .entry)) (now (x .entry)) (now (positions .entry)) (now (u .entry)) (now (v .entry)) (now (t .entry)) (now (polynomials .entry)) ⌝ }
-    ensures truth { λ r. ⌜ (r ≡ Done → Truth (levelAt 1) (key .n) (key .m) (now (h .entry)) (now (x .entry)) (now (positions .entry)) (now (u .entry)) (now (v .entry)) (now (t .exit)) (now (polynomials .exit))) ⌝ }
+    ensures outcome { λ r. ⌜ (r, (now (t .exit), now (polynomials .exit))) ≡ constraintsOutcome (levelAt FIRST) key (now (h .entry)) (now (x .entry)) (now (positions .entry)) (now (u .entry)) (now (v .entry)) (now (t .entry)) (now (polynomials .entry)) ⌝ }
+    ensures truth { λ r. ⌜ (r ≡ Done → Truth (levelAt FIRST) (key .n) (key .m) (now (h .entry)) (now (x .entry)) (now (positions .entry)) (now (u .entry)) (now (v .entry)) (now (t .exit)) (now (polynomials .exit))) ⌝ }
 {
     let answer = constraints_refused(key, h, x, positions, u, v, t, polynomials);
     match answer {
@@ -170,14 +171,14 @@ pub fn write_values(
     delta: &[u16],
     p: &mut [u16],
 )
-    requires { ⌜ Sized (levelAt 1) key × LentKey (levelAt 1) (key .n) (key .m) (now h) (now x) × Bits (now t) × Words (levelAt 1) (now q) × Words (levelAt 1) (now delta) ⌝ }
-    requires { ⌜ (length (now t) ≡ lengths (levelAt 1) key .bits) × (length (now q) ≡ lengths (levelAt 1) key .elements) × (length (now delta) ≡ lengths (levelAt 1) key .one) × (length (now p) ≡ lengths (levelAt 1) key .values) ⌝ }
-    ensures { λ _. ⌜ now (p .exit) ≡ valueWords (levelAt 1) (system (levelAt 1) key (now (h .entry)) (now (x .entry))) (now (t .entry)) (now (q .entry)) (now (delta .entry)) ⌝ }
+    requires { ⌜ Sized (levelAt FIRST) key × LentKey (levelAt FIRST) (key .n) (key .m) (now h) (now x) × Bits (now t) × Words (levelAt FIRST) (now q) × Words (levelAt FIRST) (now delta) ⌝ }
+    requires { ⌜ (length (now t) ≡ lengths (levelAt FIRST) key .bits) × (length (now q) ≡ lengths (levelAt FIRST) key .elements) × (length (now delta) ≡ lengths (levelAt FIRST) key .one) × (length (now p) ≡ lengths (levelAt FIRST) key .values) ⌝ }
+    ensures { λ _. ⌜ now (p .exit) ≡ valueWords (levelAt FIRST) (system (levelAt FIRST) key (now (h .entry)) (now (x .entry))) (now (t .entry)) (now (q .entry)) (now (delta .entry)) ⌝ }
 {
     let n = key.n;
     let m = key.m;
     let mut work = [0u16; VALUES];
-    rows::values(p, n, m, key.degree(), h, x, t, q, delta, &mut work, 1);
+    rows::values(p, n, m, key.degree(), h, x, t, q, delta, &mut work, FIRST);
 }
 
 // Writes the n + m values.
@@ -190,7 +191,7 @@ pub fn values(
     delta: &[u16],
     values: &mut [u16],
 ) -> Answer
-    ensures { λ r. ⌜ (r, now (values .exit)) ≡ valuesOutcome (levelAt 1) key (now (h .entry)) (now (x .entry)) (now (t .entry)) (now (q .entry)) (now (delta .entry)) (now (values .entry)) ⌝ }
+    ensures { λ r. ⌜ (r, now (values .exit)) ≡ valuesOutcome (levelAt FIRST) key (now (h .entry)) (now (x .entry)) (now (t .entry)) (now (q .entry)) (now (delta .entry)) (now (values .entry)) ⌝ }
 {
     let answer = values_refused(key, h, x, t, q, delta, values);
     match answer {

@@ -9,7 +9,7 @@ use Rattle.lists.specs.Words.{all}
 use Rattle.refusal.specs.Answer.{firstOf, refusal}
 use Rattle.refusal.specs.declared.Answer.the-variants.{Done}
 use Rattle.refusal.proofs.Answers.{result-of}
-use Rattle.field.specs.Level.{first, levelAt}
+use Rattle.field.specs.Level.{FIRST, first, levelAt}
 use Rattle.field.specs.Word.{within}
 use Rattle.key.specs.Key.{degree, lengths, below}
 use Rattle.constraints.specs.Order.{count}
@@ -38,7 +38,7 @@ module _ (key : Numbers) (positions : List ℕ) where
 
   answers-8 : Passes → (Solving → ⊥) → proveOf key positions .0 ≡ refusal 8
   unfolding proveOf proveOutcome levelAt
-  answers-8 e p = solved 1 (sizes key) H x positions u (bares v) (bares r) (bares s) (bares α) (t₀ key) (a₀ key) refl .eight .1 (e, p)
+  answers-8 e p = solved FIRST (sizes key) H x positions u (bares v) (bares r) (bares s) (bares α) (t₀ key) (a₀ key) refl .eight .1 (e, p)
 
   pub left : proveOf key positions .0 ≡ Done → proveOf key positions .1 ≡ proveResult first (sizes key) H x positions u (bares v) (bares r) (bares s) (bares α)
   unfolding proveOf proveOutcome

@@ -4,7 +4,7 @@ ghost use mathlib.Core.Path.{_≡_};
 ghost use Prim.Native.Nat.{ℕ, _+_, _<_};
 ghost use Rattle.refusal.specs.declared.Answer.the-variants.{Done};
 ghost use Rattle.refusal.specs.declared.Verdict.the-variants.{Accepted};
-ghost use Rattle.field.specs.Level.{levelAt};
+ghost use Rattle.field.specs.Level.{FIRST, levelAt};
 ghost use Rattle.constraints.specs.Slices.{elementAt, systemOf};
 ghost use Rattle.constraints.specs.Truth.{HonestNumbers, evaluated};
 ghost use Rattle.verifier.specs.Complete.{HonestVerifier};
@@ -31,7 +31,7 @@ pub fn agreement(
     delta: &[u16],
     values: &mut [u16],
 ) -> Answers
-    ensures { λ r. ⌜ (r .constraints ≡ Done → r .values ≡ Done → HonestNumbers (levelAt 1) (systemOf (levelAt 1) (key .n) (key .m) (now (h .entry)) (now (x .entry))) (now (u .entry)) (now (v .entry)) (now (q .entry)) (now (delta .entry)) → (j : ℕ) → j < key .n + key .m → elementAt (levelAt 1) (now (values .exit)) j ≡ evaluated (levelAt 1) (systemOf (levelAt 1) (key .n) (key .m) (now (h .entry)) (now (x .entry))) (now (polynomials .exit)) (now (delta .entry)) j) ⌝ }
+    ensures { λ r. ⌜ (r .constraints ≡ Done → r .values ≡ Done → HonestNumbers (levelAt FIRST) (systemOf (levelAt FIRST) (key .n) (key .m) (now (h .entry)) (now (x .entry))) (now (u .entry)) (now (v .entry)) (now (q .entry)) (now (delta .entry)) → (j : ℕ) → j < key .n + key .m → elementAt (levelAt FIRST) (now (values .exit)) j ≡ evaluated (levelAt FIRST) (systemOf (levelAt FIRST) (key .n) (key .m) (now (h .entry)) (now (x .entry))) (now (polynomials .exit)) (now (delta .entry)) j) ⌝ }
 {
     let written = constraints::constraints(key, h, x, positions, u, v, t, polynomials);
     let valued = constraints::values(key, h, x, t, q, delta, values);
@@ -63,7 +63,7 @@ pub fn completeness(
     delta: &[u16],
     masks: &[u16],
 ) -> Judgement
-    ensures { λ o. ⌜ (o .prove ≡ Done → HonestVerifier (levelAt 1) key (now (h .entry)) (now (x .entry)) (now (u .entry)) (now (v .entry)) (now (r .entry)) (now (s .entry)) (now (q .entry)) (now (delta .entry)) (now (masks .entry)) → o .verify ≡ Accepted) ⌝ }
+    ensures { λ o. ⌜ (o .prove ≡ Done → HonestVerifier (levelAt FIRST) key (now (h .entry)) (now (x .entry)) (now (u .entry)) (now (v .entry)) (now (r .entry)) (now (s .entry)) (now (q .entry)) (now (delta .entry)) (now (masks .entry)) → o .verify ≡ Accepted) ⌝ }
 {
     let proved = prover::prove(key, h, x, positions, u, v, r, s, alpha, t, a);
     let judged = verifier::verify(key, h, x, t, q, delta, masks, alpha, a);

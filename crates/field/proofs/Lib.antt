@@ -1,7 +1,11 @@
+pub mod Named
+pub mod Rooms
 pub mod Lanes
 pub mod Number
+pub mod ShiftAdd
 pub mod Coordinate
 pub mod Packing
+pub mod Rules
 pub mod Limit
 pub mod Elements
 pub mod PartLaws

@@ -12,13 +12,13 @@ use lib.ListN.{getD}
 use lib.Pow.{shr-lt, shr-shr, pow-mono}
 use Rattle.field.specs.Ring.{Ring}
 use Rattle.field.specs.Binary.{binary}
-use Rattle.field.specs.Vector.{Vector, sum, scale}
-use Rattle.field.specs.Quotient.{timesX}
+use Rattle.field.specs.Vector.{Vector}
+use Rattle.field.specs.Quotient.{rule, timesX}
 use Rattle.field.specs.Extension.{extend}
 use Rattle.field.specs.Word.{digits}
-use Rattle.field.specs.Packed.{lane, coordinate}
-use Rattle.field.proofs.Number.{multiple, multiple-more}
-use Rattle.field.proofs.Coordinate.{at, wordAt, word-sum, word-scale, word-Y-zero, word-Y-tap, word-Y-other}
+use Rattle.field.specs.Packed.{lane, coordinate, TimesZ}
+use Rattle.field.proofs.Number.{multiple, multiple-more, timesX-number}
+use Rattle.field.proofs.Coordinate.{at, wordAt, word-Y-zero, word-Y-tap, word-Y-other}
 use Rattle.field.proofs.Lanes.{lane-xor, lane-and, lane-mul, lane-digit, lane-cut, lane-put-at, lane-put-other, lane-mask}
 
 -- a lane, by a shift
@@ -65,26 +65,26 @@ coordinates-at n ws k h = coordinates-from 0 n ws k h ∙ ap (coordinate ws) sam
     same : 0 + k ≡ k
     same = omega arith
 
--- what holds of every lane of every word holds of every coordinate
-pub by-lanes : (ws : List ℕ) (P : ℕ → ℕ → Type 0) (W : ℕ) → ((q j : ℕ) → q < W → j < 4 → P (4 * q + j) (lane (getD ws q 0) j)) → (i : ℕ) → i < 4 * W → P i (coordinate ws i)
-by-lanes ws P W h i l = subst (λ n. P n (coordinate ws n)) same (subst (P (4 * (i / 4) + i % 4)) (sym (coordinate-word ws (i / 4) (i % 4) (omega arith))) (h (i / 4) (i % 4) (omega arith) (omega arith)))
+-- what holds of every lane that is one of the first n holds of n coordinates
+pub by-lanes : (ws : List ℕ) (P : ℕ → ℕ → Type 0) (W n : ℕ) → n ≤ 4 * W → ((q j : ℕ) → q < W → j < 4 → 4 * q + j < n → P (4 * q + j) (lane (getD ws q 0) j)) → (i : ℕ) → i < n → P i (coordinate ws i)
+by-lanes ws P W n room h i l = subst (λ n. P n (coordinate ws n)) same (subst (P (4 * (i / 4) + i % 4)) (sym (coordinate-word ws (i / 4) (i % 4) (omega arith))) (h (i / 4) (i % 4) (omega arith) (omega arith) (omega arith)))
   where
     same : 4 * (i / 4) + i % 4 ≡ i
     same = omega arith
 
--- z times each of n lanes of w digits, z^w being the number r: the digits of 2^(w-1) of all lanes come down at once
-module _ (n w r x ones : ℕ) (positive : 0 < w) (room : w < 16) (rule-lt : r < 2 ^ w) (small : (i : ℕ) → i < n → lane x i < 2 ^ w) (each : (i : ℕ) → i < n → lane ones i ≡ 1) where
+-- z times each of m lanes of w digits, z^w being the number r: the digits of 2^(w-1) of all lanes come down at once
+module _ (n m w r x ones : ℕ) (positive : 0 < w) (room : w < 16) (rule-lt : r < 2 ^ w) (some : m ≤ n) (small : (i : ℕ) → i < m → lane x i < 2 ^ w) (each : (i : ℕ) → i < n → lane ones i ≡ 1) where
   abbrev h : ℕ
   h = bitAnd (x / 2 ^ (w - 1)) ones
 
-  top-lt : (i : ℕ) → i < n → lane x i / 2 ^ (w - 1) < 2
+  top-lt : (i : ℕ) → i < m → lane x i / 2 ^ (w - 1) < 2
   top-lt i l = shr-lt 1 (w - 1) (subst (λ k. lane x i < 2 ^ k) same (small i l))
     where
       same : w ≡ 1 + (w - 1)
       same = omega arith
 
-  h-lane : (i : ℕ) → i < n → lane h i ≡ lane x i / 2 ^ (w - 1)
-  h-lane i l = lane-and (x / 2 ^ (w - 1)) ones i ∙ ap (bitAnd (lane (x / 2 ^ (w - 1)) i)) (each i l) ∙ and-mask (lane (x / 2 ^ (w - 1)) i) 1 ∙ lane-digit (w - 1) x i (omega arith) ∙ mod-eq-of-lt (top-lt i l)
+  h-lane : (i : ℕ) → i < m → lane h i ≡ lane x i / 2 ^ (w - 1)
+  h-lane i l = lane-and (x / 2 ^ (w - 1)) ones i ∙ ap (bitAnd (lane (x / 2 ^ (w - 1)) i)) (each i (omega arith)) ∙ and-mask (lane (x / 2 ^ (w - 1)) i) 1 ∙ lane-digit (w - 1) x i (omega arith) ∙ mod-eq-of-lt (top-lt i l)
 
   half : 2 ^ w ≤ 32768
   half = pow-mono {i = w} {j = 15} (omega arith)
@@ -92,10 +92,24 @@ module _ (n w r x ones : ℕ) (positive : 0 < w) (room : w < 16) (rule-lt : r < 
   fits : (q : ℕ) → q < 2 → (2 ^ w + r) * q < 65536
   fits q l = lt-of-le-of-lt (mul-le-mul-left (2 ^ w + r) (le-of-suc-le-suc l)) (omega (arith, half, mul-one (2 ^ w + r)))
 
-  pub lane-Z : (j : ℕ) → j < n → lane (bitXor (x * 2 % 2 ^ (16 * n)) (h * (2 ^ w + r))) j ≡ bitXor (2 * lane x j) ((2 ^ w + r) * (lane x j / 2 ^ (w - 1)))
+  lane-Z : (j : ℕ) → j < m → lane (bitXor (x * 2 % 2 ^ (16 * n)) (h * (2 ^ w + r))) j ≡ bitXor (2 * lane x j) ((2 ^ w + r) * (lane x j / 2 ^ (w - 1)))
   lane-Z j l = lane-xor (x * 2 % 2 ^ (16 * n)) (h * (2 ^ w + r)) j ∙ ap₂ bitXor
-      (lane-cut n (x * 2) j l ∙ ap (λ y. lane y j) (mul-comm x 2) ∙ lane-mul 2 x j (λ i k. omega (arith, half, small i (omega arith))))
+      (lane-cut n (x * 2) j (omega arith) ∙ ap (λ y. lane y j) (mul-comm x 2) ∙ lane-mul 2 x j (λ i k. omega (arith, half, small i (omega arith))))
       (ap (λ y. lane y j) (mul-comm h (2 ^ w + r)) ∙ lane-mul (2 ^ w + r) h j (λ i k. subst (λ y. (2 ^ w + r) * y < 65536) (sym (h-lane i (omega arith))) (fits (lane x i / 2 ^ (w - 1)) (top-lt i (omega arith)))) ∙ ap (λ y. (2 ^ w + r) * y) (h-lane j l))
+
+-- a one in each of four lanes
+ones-lane : (i : ℕ) → i < 4 → lane 281479271743489 i ≡ 1
+unfolding lane
+ones-lane zero h = refl
+ones-lane (suc zero) h = refl
+ones-lane (suc (suc zero)) h = refl
+ones-lane (suc (suc (suc zero))) h = refl
+ones-lane (suc (suc (suc (suc i)))) h = absurd (omega arith)
+
+pub times-Z : (w t r x : ℕ) → 0 < w → w < 16 → r < 2 ^ w → digits w r ≡ rule binary w t → TimesZ w t x (bitXor (x * 2 % 2 ^ 64) (bitAnd (x / 2 ^ (w - 1)) 281479271743489 * (2 ^ w + r)))
+times-Z w t r x positive room rule-lt e j l small =
+    subst (λ y. (y < 2 ^ w) × (digits w y ≡ timesX binary w t (digits w (lane x j)))) (sym (lane-Z 4 (suc j) w r x 281479271743489 positive room rule-lt (omega arith) (λ i h. small i (omega arith)) ones-lane j (omega arith)))
+    (timesX-number w t r (lane x j) positive e rule-lt (small j (omega arith)))
 
 -- all words moved up by one lane
 coordinate-up : (W : ℕ) (a r : List ℕ) → ((q j : ℕ) → q < W → j < 3 → lane (getD r q 0) (suc j) ≡ lane (getD a q 0) j) → ((q : ℕ) → suc q < W → lane (getD r (suc q) 0) 0 ≡ lane (getD a q 0) 3) → (i : ℕ) → suc i < 4 * W → coordinate r (suc i) ≡ coordinate a i
@@ -128,14 +142,6 @@ module _ (w t n : ℕ) where
 
   abbrev pub Packs : List ℕ → Element → Type 0
   Packs ws x = (i : ℕ) → i < n → coordinate ws i ≡ wordAt w t n x i
-
-  pub packs-sum : (W : ℕ) (a b r : List ℕ) (x y : Element) → n ≤ 4 * W → ((q : ℕ) → q < W → getD r q 0 ≡ bitXor (getD a q 0) (getD b q 0)) → Packs a x → Packs b y → Packs r (sum F n x y)
-  unfolding coordinate
-  packs-sum W a b r x y room e ha hb i h = ap (λ z. lane z (i % 4)) (e (i / 4) (omega arith)) ∙ lane-xor (getD a (i / 4) 0) (getD b (i / 4) 0) (i % 4) ∙ ap₂ bitXor (ha i h) (hb i h) ∙ sym (word-sum w t n x y i h)
-
-  -- the multiple by f of coordinate i of x
-  pub packs-scale : (f : ℕ) (r : List ℕ) (x : Element) → ((i : ℕ) → i < n → coordinate r i ≡ multiple w t (at F n x i) f) → Packs r (scale F n (digits w f) x)
-  packs-scale f r x e i h = e i h ∙ sym (word-scale w t n (digits w f) x i h)
 
 -- a lane of u, which has the multiple of c by the lowest k digits of f, with one digit more; that lane of y has the multiple by z^k
 pub lane-more : (w t f k u y : ℕ) (c : Vector Bool w) (j : ℕ) → j < 4 → lane y j ≡ multiple w t c (2 ^ k) → lane u j ≡ multiple w t c (f % 2 ^ k)

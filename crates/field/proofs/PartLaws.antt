@@ -1,69 +1,23 @@
--- Parts of three words: sums with one element, and of all parts by the powers of z.
+-- Sums of parts by the powers of z, at every level.
 use mathlib.Core.Path.{_≡_, refl, sym, _∙_, ap, ap₂}
-use mathlib.Core.List.{List}
 use Prim.Native.Nat.{ℕ, zero, suc, _+_, _-_, _*_, _/_, _%_, _^_, _<_, _≤_}
 use native.Mathlib.Nat.{pow-suc, lt-of-lt-of-le, add-zero, suc-add, add-suc}
 use native.Mathlib.Omega.{arith}
-use lib.Bits.{bitXor}
-use lib.ListN.{length, getD, drop, set, replicate, length-set, getD-replicate}
+use lib.ListN.{drop, replicate, getD-replicate}
 use lib.Pow.{shr-shr, pow-mono}
-use lib.Seq.{getD-drop, getD-set-same, getD-set-other}
-use Rattle.field.specs.Ring.{Ring, Hom}
+use lib.Seq.{getD-drop}
+use Rattle.field.specs.Ring.{Ring}
 use Rattle.field.specs.RingLaws.{ring, zero-mul, hom-zero}
 use Rattle.field.specs.Binary.{bit}
 use Rattle.field.specs.declared.Level.{Level}
-use Rattle.field.specs.Level.{first, levelAt, F, K, embed}
+use Rattle.field.specs.Level.{first, second, levelAt, F, K, embed}
 use Rattle.field.specs.Word.{odd, small}
-use Rattle.field.specs.Packed.{lane, coordinate, Holds, combined, Combines}
+use Rattle.field.specs.Packed.{lane, coordinate, Holds, room, combined, Combines}
 use Rattle.field.proofs.Lanes.{lane-zero}
 use Rattle.field.proofs.Packing.{coordinate-is}
 use Rattle.field.proofs.Elements.{zero-word}
+use Rattle.field.proofs.Named.{every}
 use Rattle.field.proofs.Number.{digits-zero, digits-one, digits-half}
-
--- y is added to word i
-module _ (ws : List ℕ) (i y : ℕ) where
-  abbrev pub xored : List ℕ
-  xored = set ws i (bitXor (getD ws i 0) y)
-
-  xored-length : length xored ≡ length ws
-  xored-length = length-set ws i (bitXor (getD ws i 0) y)
-
-  xored-same : i < length ws → getD xored i 0 ≡ bitXor (getD ws i 0) y
-  xored-same h = getD-set-same ws i (bitXor (getD ws i 0) y) 0 h
-
-  xored-other : (j : ℕ) → (j ≡ i → ⊥) → getD xored j 0 ≡ getD ws j 0
-  xored-other j d = getD-set-other ws i j (bitXor (getD ws i 0) y) 0 d
-
--- the three words of a are added to those from p on
-module _ (ws a : List ℕ) (p : ℕ) where
-  abbrev one : List ℕ
-  one = xored ws p (getD a 0 0)
-
-  abbrev two : List ℕ
-  two = xored one (p + 1) (getD a 1 0)
-
-  abbrev pub three : List ℕ
-  three = xored two (p + 2) (getD a 2 0)
-
-  long : length two ≡ length ws
-  long = xored-length one (p + 1) (getD a 1 0) ∙ xored-length ws p (getD a 0 0)
-
-  pub three-length : length three ≡ length ws
-  three-length = xored-length two (p + 2) (getD a 2 0) ∙ long
-
-  untouched : (i : ℕ) → (i ≡ p → ⊥) → (i ≡ p + 1 → ⊥) → getD two i 0 ≡ getD ws i 0
-  untouched i u v = xored-other one (p + 1) (getD a 1 0) i v ∙ xored-other ws p (getD a 0 0) i u
-
-  pub three-other : (i : ℕ) → (i ≡ p → ⊥) → (i ≡ p + 1 → ⊥) → (i ≡ p + 2 → ⊥) → getD three i 0 ≡ getD ws i 0
-  three-other i u v x = xored-other two (p + 2) (getD a 2 0) i x ∙ untouched i u v
-
-  pub three-at : p + 3 ≤ length ws → (q : ℕ) → q < 3 → getD three (p + q) 0 ≡ bitXor (getD ws (p + q) 0) (getD a q 0)
-  three-at h zero l = ap (λ i. getD three i 0) (add-zero p) ∙ xored-other two (p + 2) (getD a 2 0) p (omega arith) ∙ xored-other one (p + 1) (getD a 1 0) p (omega arith)
-      ∙ xored-same ws p (getD a 0 0) (omega arith) ∙ ap (λ i. bitXor (getD ws i 0) (getD a 0 0)) (sym (add-zero p))
-  three-at h (suc zero) l = xored-other two (p + 2) (getD a 2 0) (p + 1) (omega arith) ∙ xored-same one (p + 1) (getD a 1 0) (omega (arith, xored-length ws p (getD a 0 0)))
-      ∙ ap (λ y. bitXor y (getD a 1 0)) (xored-other ws p (getD a 0 0) (p + 1) (omega arith))
-  three-at h (suc (suc zero)) l = xored-same two (p + 2) (getD a 2 0) (omega (arith, long)) ∙ ap (λ y. bitXor y (getD a 2 0)) (untouched (p + 2) (omega arith) (omega arith))
-  three-at h (suc (suc (suc q))) l = absurd (omega arith)
 
 module _ (R : Ring) (z : R .Carrier) where
   open Ring R using (Carrier, zero as 𝟘, one as 𝟙, add as _⊕_, mul as _⊗_)
@@ -145,9 +99,12 @@ module _ (l : Level) (wide : 1 < l .width) where
       below = lt-of-lt-of-le m (pow-mono {i = suc n} {j = l .width} h)
 
 -- parts of zeros
-pub combines-none : (number : ℕ) → Combines (levelAt number) (replicate 33 0) (K (levelAt number) .zero)
-unfolding levelAt Holds
-combines-none number = record { size = refl; part = λ k. K first .zero; held = λ k h i m. blank k i h m ∙ sym (zero-word first i m); total = combined-none (K first) (embed first .map (small first 2)) 11 }
+none : (l : Level) → room l * l .width ≤ 72 → ((k i : ℕ) → k < l .width → i < l .coordinates → room l * k + i / 4 < 72) → Combines l (replicate 72 0) (K l .zero)
+unfolding Holds
+none l long inside = record { size = long; part = λ k. K l .zero; held = λ k h i m. blank k i h m ∙ sym (zero-word l i m); total = combined-none (K l) (embed l .map (small l 2)) (l .width) }
   where
-    blank : (k i : ℕ) → k < 11 → i < 12 → coordinate (drop (3 * k) (replicate 33 0)) i ≡ 0
-    blank k i h m = coordinate-is (drop (3 * k) (replicate 33 0)) i ∙ ap (λ y. lane y (i % 4)) (getD-drop (3 * k) (replicate 33 0) (i / 4) 0 ∙ getD-replicate 33 (3 * k + i / 4) 0 0 (omega arith)) ∙ lane-zero (i % 4)
+    blank : (k i : ℕ) → k < l .width → i < l .coordinates → coordinate (drop (room l * k) (replicate 72 0)) i ≡ 0
+    blank k i h m = coordinate-is (drop (room l * k) (replicate 72 0)) i ∙ ap (λ y. lane y (i % 4)) (getD-drop (room l * k) (replicate 72 0) (i / 4) 0 ∙ getD-replicate 72 (room l * k + i / 4) 0 0 (inside k i h m)) ∙ lane-zero (i % 4)
+
+pub combines-none : (number : ℕ) → Combines (levelAt number) (replicate 72 0) (K (levelAt number) .zero)
+combines-none number = every (λ l. Combines l (replicate 72 0) (K l .zero)) number (none first (omega arith) (λ k i h m. omega arith)) (none second (omega arith) (λ k i h m. omega arith))

@@ -1,5 +1,7 @@
 -- The fields F and K of a level.
+use mathlib.Core.Bool.{cond}
 use Prim.Native.Nat.{ℕ}
+use lib.Dec.{eqb}
 use Rattle.field.specs.Ring.{Ring, Hom}
 use Rattle.field.specs.Binary.{binary}
 use Rattle.field.specs.Quotient.{generator}
@@ -11,9 +13,20 @@ use Rattle.field.specs.declared.Level.{Level}
 abbrev pub first : Level
 first = record { width = 11; tap = 2; limit = 2047; coordinates = 12; power = 3; most = 64 }
 
--- the level with number l; there is one at present, and every number names it
+-- "There F has 4,096 elements with z^12 = z^3 + 1, K has 23 coordinates with Y^23 = Y^5 + 1, n goes to 128 and elements to 4095."
+abbrev pub second : Level
+second = record { width = 12; tap = 3; limit = 4095; coordinates = 23; power = 5; most = 128 }
+
+-- the numbers of the levels
+abbrev pub FIRST : ℕ
+FIRST = 1
+
+abbrev pub SECOND : ℕ
+SECOND = 2
+
+-- the level with number l: the second for SECOND, and the first for every other number
 unfoldable pub levelAt : ℕ → Level
-levelAt l = first
+levelAt l = cond (eqb l SECOND) second first
 
 -- F: polynomials over two elements, with z^width = z^tap + 1
 unfoldable pub F : Level → Ring

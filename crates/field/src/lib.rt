@@ -6,9 +6,9 @@ ghost use lib.ListN.{length};
 ghost use Rattle.lists.specs.Words.{part, put};
 ghost use Rattle.field.specs.Ring.{Ring, Hom};
 ghost use Rattle.field.specs.Binary.{bit};
-ghost use Rattle.field.specs.Level.{levelAt, F, K, embed, Y};
+ghost use Rattle.field.specs.Level.{levelAt, first, second, F, K, embed, Y};
 ghost use Rattle.field.specs.Word.{odd, small, words, within, isZero};
-ghost use Rattle.field.specs.Packed.{Holds, Tabulates};
+ghost use Rattle.field.specs.Packed.{Holds, Multiplies};
 
 pub mod combination;
 mod packed;
@@ -25,41 +25,76 @@ pub struct Level {
     pub most: usize,
 }
 
-pub const LEVELS: [Level; 1] = [Level {
-    width: 11,
-    tap: 2,
-    limit: 2047,
-    coordinates: 12,
-    power: 3,
-    most: 64,
-}];
+// The numbers of the levels.
+pub const FIRST: usize = 1;
+
+pub const SECOND: usize = 2;
+
+pub const LEVELS: [Level; 2] = [
+    Level {
+        width: 11,
+        tap: 2,
+        limit: 2047,
+        coordinates: 12,
+        power: 3,
+        most: 64,
+    },
+    Level {
+        width: 12,
+        tap: 3,
+        limit: 4095,
+        coordinates: 23,
+        power: 5,
+        most: 128,
+    },
+];
 
 impl Level {
-    // The level with this number.
+    // The level with this number: the second for SECOND, and the first for every other.
     pub fn of(number: usize) -> Level
         ensures { λ r. ⌜ r ≡ levelAt number ⌝ }
     {
-        LEVELS[0]
+        let mut i: usize = 0;
+        if number == SECOND {
+            i = 1;
+        }
+        LEVELS[i]
     }
 }
 
-// An element of K: four coordinates to a word, sixteen bits each. Its functions are told the level.
+// The packed words of an element, four coordinates each, enough for each level.
+pub const WORDS: usize = 6;
+
+// The packed words of a table of multiples, or of a sum of parts, enough for each level.
+pub const TABLE: usize = 72;
+
+// Those of a table of the first level.
+const NARROW: usize = 33;
+
+// An element of K: four coordinates to a word, sixteen bits each, in as many words as the level needs; nothing is known of the
+// others. Its functions are told the level, and hand it to the kernels as a constant.
 pub struct Element {
-    pub words: [u64; 3],
+    pub words: [u64; WORDS],
 }
 
-// The multiples of an element by 1, z, .. z^10, three words each: for a factor of many products.
+// The multiples of an element by 1, z, z^2 and so on, for a factor of many products. Each level has an array of its own, since the
+// words moved are what a table costs.
 pub struct Multiples {
-    pub words: [u64; 33],
+    pub words: [u64; NARROW],
+    pub wide: [u64; TABLE],
 }
 
 impl Element {
-    pub const ZERO: Element = Element { words: [0, 0, 0] };
+    pub const ZERO: Element = Element {
+        words: [0, 0, 0, 0, 0, 0],
+    };
 
-    pub const ONE: Element = Element { words: [1, 0, 0] };
+    pub const ONE: Element = Element {
+        words: [1, 0, 0, 0, 0, 0],
+    };
 
     pub const Y: Element = Element {
-        words: [65536, 0, 0],
+        words: [65536, 0, 0, 0, 0, 0],
     };
 
     pub fn zero(level: usize) -> Element
@@ -85,12 +120,19 @@ impl Element {
         requires { ⌜ at + levelAt level .coordinates ≤ length (now s) ⌝ }
         ensures { λ r. ⌜ ((x : K (levelAt level) .Carrier) → part at (levelAt level .coordinates) (now (s .entry)) ≡ words (levelAt level) x → Holds (levelAt level) (r .words) x) ⌝ }
     {
+        let a = packed::four_at(s, at);
+        let b = packed::four_at(s, at + 4);
+        let c = packed::four_at(s, at + 8);
+        if level == SECOND {
+            let d = packed::four_at(s, at + 12);
+            let e = packed::four_at(s, at + 16);
+            let f = packed::three_at(s, at + 20);
+            return Element {
+                words: [a, b, c, d, e, f],
+            };
+        }
         Element {
-            words: [
-                packed::four_at(s, at),
-                packed::four_at(s, at + 4),
-                packed::four_at(s, at + 8),
-            ],
+            words: [a, b, c, 0, 0, 0],
         }
     }
 
@@ -99,36 +141,68 @@ impl Element {
         requires { ⌜ at + levelAt level .coordinates ≤ length (now s) ⌝ }
         ensures { λ _. ⌜ ((x : K (levelAt level) .Carrier) → Holds (levelAt level) (self .words) x → now (s .exit) ≡ put at (words (levelAt level) x) (now (s .entry))) ⌝ }
     {
-        for i in 0..12usize {
-            s[at + i] = packed::coordinate(self, i);
+        let words = self.words;
+        if level == SECOND {
+            packed::store(&words, s, at, SECOND);
+        } else {
+            packed::store(&words, s, at, FIRST);
         }
     }
 
     pub fn plus(self, other: Element, level: usize) -> Element
         ensures { λ r. ⌜ ((x y : K (levelAt level) .Carrier) → Holds (levelAt level) (self .words) x → Holds (levelAt level) (other .words) y → Holds (levelAt level) (r .words) (K (levelAt level) .add x y)) ⌝ }
     {
-        let a = self.words;
+        let mut words = self.words;
         let b = other.words;
-        Element {
-            words: [a[0] ^ b[0], a[1] ^ b[1], a[2] ^ b[2]],
+        if level == SECOND {
+            packed::add(&mut words, &b, 1, SECOND);
+            return Element { words };
         }
+        packed::add(&mut words, &b, 1, FIRST);
+        Element { words }
     }
 
     pub fn times(self, other: Element, level: usize) -> Element
         ensures { λ r. ⌜ ((x y : K (levelAt level) .Carrier) → Holds (levelAt level) (self .words) x → Holds (levelAt level) (other .words) y → Holds (levelAt level) (r .words) (K (levelAt level) .mul x y)) ⌝ }
     {
-        Multiples::of(self, level).times(other, level)
+        if level == SECOND {
+            return Element::second_product(self, other);
+        }
+        Element::first_product(self, other)
+    }
+
+    // The product at each level, with a table no longer than it needs.
+    fn first_product(a: Element, b: Element) -> Element
+        ensures { λ r. ⌜ ((x y : K first .Carrier) → Holds first (a .words) x → Holds first (b .words) y → Holds first (r .words) (K first .mul x y)) ⌝ }
+    {
+        let factor = a.words;
+        let other = b.words;
+        let mut table = [0u64; NARROW];
+        packed::multiples(&mut table, &factor, FIRST);
+        let words = packed::product(&table, &other, FIRST);
+        Element { words }
+    }
+
+    fn second_product(a: Element, b: Element) -> Element
+        ensures { λ r. ⌜ ((x y : K second .Carrier) → Holds second (a .words) x → Holds second (b .words) y → Holds second (r .words) (K second .mul x y)) ⌝ }
+    {
+        let factor = a.words;
+        let other = b.words;
+        let mut table = [0u64; TABLE];
+        packed::multiples(&mut table, &factor, SECOND);
+        let words = packed::product(&table, &other, SECOND);
+        Element { words }
     }
 
     // Zero exactly when the element is zero.
     pub fn nonzero(self, level: usize) -> u16
         ensures { λ r. ⌜ ((x : K (levelAt level) .Carrier) → Holds (levelAt level) (self .words) x → eqb r 0 ≡ isZero (levelAt level) x) ⌝ }
     {
-        let mut any: u16 = 0;
-        for i in 0..12usize {
-            any = any | packed::coordinate(self, i);
+        let words = self.words;
+        if level == SECOND {
+            return packed::nonzero(&words, SECOND);
         }
-        any
+        packed::nonzero(&words, FIRST)
     }
 
     // The element where b is 1, and zero where it is 0.
@@ -137,49 +211,61 @@ impl Element {
         ensures { λ r. ⌜ ((x : K (levelAt level) .Carrier) → Holds (levelAt level) (self .words) x → Holds (levelAt level) (r .words) (K (levelAt level) .mul (bit (K (levelAt level)) (odd b)) x)) ⌝ }
     {
         let a = self.words;
-        let mask = b * 0xffff_ffff_ffff_ffff;
-        Element {
-            words: [a[0] & mask, a[1] & mask, a[2] & mask],
+        let mut words = [0u64; WORDS];
+        if level == SECOND {
+            packed::add(&mut words, &a, b, SECOND);
+            return Element { words };
         }
+        packed::add(&mut words, &a, b, FIRST);
+        Element { words }
     }
 }
 
 impl Multiples {
     pub fn of(factor: Element, level: usize) -> Multiples
-        ensures { λ r. ⌜ ((x : K (levelAt level) .Carrier) → Holds (levelAt level) (factor .words) x → Tabulates (levelAt level) (r .words) x) ⌝ }
+        ensures { λ r. ⌜ ((x : K (levelAt level) .Carrier) → Holds (levelAt level) (factor .words) x → Multiplies (levelAt level) r x) ⌝ }
     {
-        let first = factor.words;
-        let mut table = [0u64; 33];
-        table[0] = first[0];
-        table[1] = first[1];
-        table[2] = first[2];
-        for i in 3..33usize {
-            table[i] = packed::times_z(table[i - 3]);
+        let a = factor.words;
+        if level == SECOND {
+            let mut wide = [0u64; TABLE];
+            packed::multiples(&mut wide, &a, SECOND);
+            let none = [0u64; NARROW];
+            return Multiples { words: none, wide };
         }
-        Multiples { words: table }
+        let mut words = [0u64; NARROW];
+        packed::multiples(&mut words, &a, FIRST);
+        let blank = [0u64; TABLE];
+        Multiples { words, wide: blank }
     }
 
     // The factor times another element.
     pub fn times(self, other: Element, level: usize) -> Element
-        ensures { λ r. ⌜ ((x y : K (levelAt level) .Carrier) → Tabulates (levelAt level) (self .words) x → Holds (levelAt level) (other .words) y → Holds (levelAt level) (r .words) (K (levelAt level) .mul x y)) ⌝ }
+        ensures { λ r. ⌜ ((x y : K (levelAt level) .Carrier) → Multiplies (levelAt level) self x → Holds (levelAt level) (other .words) y → Holds (levelAt level) (r .words) (K (levelAt level) .mul x y)) ⌝ }
     {
-        let table = self.words;
-        let mut z = Element::zero(level);
-        let mut i: usize = 12;
-        while 0 < i {
-            i -= 1;
-            let row = packed::row(&table, packed::coordinate(other, i));
-            z = row.plus(packed::times_y(z), level);
+        let b = other.words;
+        if level == SECOND {
+            let long = self.wide;
+            let all = packed::product(&long, &b, SECOND);
+            return Element { words: all };
         }
-        z
+        let table = self.words;
+        let words = packed::product(&table, &b, FIRST);
+        Element { words }
     }
 
     // f, an element of F, times the factor.
     pub fn scaled(self, f: u16, level: usize) -> Element
-        ensures { λ r. ⌜ ((x : K (levelAt level) .Carrier) → f ≤ levelAt level .limit → Tabulates (levelAt level) (self .words) x → Holds (levelAt level) (r .words) (K (levelAt level) .mul (embed (levelAt level) .map (small (levelAt level) f)) x)) ⌝ }
+        ensures { λ r. ⌜ ((x : K (levelAt level) .Carrier) → f ≤ levelAt level .limit → Multiplies (levelAt level) self x → Holds (levelAt level) (r .words) (K (levelAt level) .mul (embed (levelAt level) .map (small (levelAt level) f)) x)) ⌝ }
     {
+        let mut words = [0u64; WORDS];
+        if level == SECOND {
+            let long = self.wide;
+            packed::scaled(&mut words, &long, f, SECOND);
+            return Element { words };
+        }
         let table = self.words;
-        packed::row(&table, f)
+        packed::scaled(&mut words, &table, f, FIRST);
+        Element { words }
     }
 }
 
@@ -193,5 +279,6 @@ pub fn excess(s: &[u16], level: usize) -> u16
         any = any | s[i];
         i += 1;
     }
-    any >> 11
+    let l = Level::of(level);
+    any >> l.width
 }

@@ -6,7 +6,7 @@ ghost use lib.ListN.{length};
 ghost use Rattle.field.specs.Binary.{bit};
 ghost use Rattle.field.specs.Level.{levelAt, K};
 ghost use Rattle.field.specs.Word.{odd};
-ghost use Rattle.field.specs.Packed.{Holds, Tabulates};
+ghost use Rattle.field.specs.Packed.{Holds, Multiplies};
 ghost use Rattle.row.specs.Elements.{el, Fits, Words, Tabled};
 ghost use Rattle.row.specs.Polynomial.{sum, digit, z};
 ghost use Rattle.row.specs.Step.{Step};
@@ -27,8 +27,8 @@ fn chosen(x: Element, y: Element, w: u64, level: usize) -> Element
 // The polynomials of s coefficients at elements a and b become one of s + 1 at a: the first times the complement of w times X plus v,
 // plus the second times w times X plus v, where v is the factor of the table. One product with v serves both.
 fn join(buf: &mut [u16], a: usize, b: usize, s: usize, w: u64, multiples: Multiples, level: usize)
-    requires { ⌜ Words (levelAt level) (now buf) × Tabled (levelAt level) (multiples .words) × (w < 2) × (a + s < b) × Fits (levelAt level) (b + s) (length (now buf)) ⌝ }
-    ensures { λ _. ⌜ ((y : K (levelAt level) .Carrier) → Tabulates (levelAt level) (multiples .words) y → Step (levelAt level) (now (buf .entry)) (now (buf .exit)) (λ f g. Joined (K (levelAt level)) f g a b s (odd w) y (s + 1))) ⌝ }
+    requires { ⌜ Words (levelAt level) (now buf) × Tabled (levelAt level) multiples × (w < 2) × (a + s < b) × Fits (levelAt level) (b + s) (length (now buf)) ⌝ }
+    ensures { λ _. ⌜ ((y : K (levelAt level) .Carrier) → Multiplies (levelAt level) multiples y → Step (levelAt level) (now (buf .entry)) (now (buf .exit)) (λ f g. Joined (K (levelAt level)) f g a b s (odd w) y (s + 1))) ⌝ }
 {
     let mut carry = Element::zero(level);
     let mut e: usize = 0;
@@ -45,8 +45,8 @@ fn join(buf: &mut [u16], a: usize, b: usize, s: usize, w: u64, multiples: Multip
 
 // The first 2 h rows of n elements, polynomials of s coefficients, become the first h, of s + 1: each row with the one h rows on.
 fn halve(buf: &mut [u16], n: usize, h: usize, s: usize, w: u64, multiples: Multiples, level: usize)
-    requires { ⌜ Words (levelAt level) (now buf) × Tabled (levelAt level) (multiples .words) × (w < 2) × (s < n) × Fits (levelAt level) (n * h + n * h) (length (now buf)) ⌝ }
-    ensures { λ _. ⌜ ((y : K (levelAt level) .Carrier) → Tabulates (levelAt level) (multiples .words) y → Step (levelAt level) (now (buf .entry)) (now (buf .exit)) (λ f g. Halved (K (levelAt level)) f g n h s (odd w) y h)) ⌝ }
+    requires { ⌜ Words (levelAt level) (now buf) × Tabled (levelAt level) multiples × (w < 2) × (s < n) × Fits (levelAt level) (n * h + n * h) (length (now buf)) ⌝ }
+    ensures { λ _. ⌜ ((y : K (levelAt level) .Carrier) → Multiplies (levelAt level) multiples y → Step (levelAt level) (now (buf .entry)) (now (buf .exit)) (λ f g. Halved (K (levelAt level)) f g n h s (odd w) y h)) ⌝ }
 {
     let half = n * h;
     let mut a: usize = 0;

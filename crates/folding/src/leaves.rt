@@ -3,7 +3,7 @@ ghost use mathlib.Core.Path.{_≡_};
 ghost use Prim.Native.Nat.{ℕ, _+_, _*_, _<_, _≤_};
 ghost use lib.ListN.{length};
 ghost use Rattle.field.specs.Level.{levelAt, K};
-ghost use Rattle.field.specs.Packed.{Holds, Tabulates};
+ghost use Rattle.field.specs.Packed.{Holds, Multiplies};
 ghost use Rattle.row.specs.Elements.{el, Fits, Words, Within, Tabled};
 ghost use Rattle.row.specs.Lent.{smallOf, entryOf};
 ghost use Rattle.row.specs.Step.{Step, Added};
@@ -15,8 +15,8 @@ use row::elements;
 
 // Adds the factor of a table times entry i of row e of H, which stands from place at on, to element i of dst, for the first n.
 fn add_row(dst: &mut [u16], multiples: Multiples, h: &[u16], at: usize, n: usize, level: usize)
-    requires { ⌜ Words (levelAt level) (now dst) × Tabled (levelAt level) (multiples .words) × Within (levelAt level) (now h) × (at + n ≤ length (now h)) × Fits (levelAt level) n (length (now dst)) ⌝ }
-    ensures { λ _. ⌜ ((y : K (levelAt level) .Carrier) → Tabulates (levelAt level) (multiples .words) y → Step (levelAt level) (now (dst .entry)) (now (dst .exit)) (λ f g. Added (K (levelAt level)) f g (λ i. K (levelAt level) .mul (smallOf (levelAt level) (now (h .entry)) (at + i)) y) n)) ⌝ }
+    requires { ⌜ Words (levelAt level) (now dst) × Tabled (levelAt level) multiples × Within (levelAt level) (now h) × (at + n ≤ length (now h)) × Fits (levelAt level) n (length (now dst)) ⌝ }
+    ensures { λ _. ⌜ ((y : K (levelAt level) .Carrier) → Multiplies (levelAt level) multiples y → Step (levelAt level) (now (dst .entry)) (now (dst .exit)) (λ f g. Added (K (levelAt level)) f g (λ i. K (levelAt level) .mul (smallOf (levelAt level) (now (h .entry)) (at + i)) y) n)) ⌝ }
 {
     let mut i: usize = 0;
     while i < n {
@@ -51,7 +51,7 @@ fn weight(
     level: usize,
 ) -> Element
     requires { ⌜ Words (levelAt level) (now alpha) × Within (levelAt level) (now x) × (n ≤ length (now x)) × Fits (levelAt level) n (length (now alpha)) ⌝ }
-    ensures inside { λ r. ⌜ ((y : K (levelAt level) .Carrier) → Tabulates (levelAt level) (multiples .words) y → j < n → Holds (levelAt level) (r .words) (leaf (K (levelAt level)) (el (levelAt level) (now (alpha .entry))) (smallOf (levelAt level) (now (x .entry))) y j)) ⌝ }
+    ensures inside { λ r. ⌜ ((y : K (levelAt level) .Carrier) → Multiplies (levelAt level) multiples y → j < n → Holds (levelAt level) (r .words) (leaf (K (levelAt level)) (el (levelAt level) (now (alpha .entry))) (smallOf (levelAt level) (now (x .entry))) y j)) ⌝ }
     ensures outside { λ r. ⌜ (n ≤ j → Holds (levelAt level) (r .words) (K (levelAt level) .zero)) ⌝ }
 {
     if j < n {
@@ -75,8 +75,8 @@ pub fn leaves(
     n: usize,
     level: usize,
 )
-    requires { ⌜ Words (levelAt level) (now dst) × Words (levelAt level) (now alpha) × Tabled (levelAt level) (multiples .words) × Within (levelAt level) (now x) × (n ≤ length (now x)) × (0 < stride) × (first ≤ count) × Fits (levelAt level) (stride * count) (length (now dst)) × Fits (levelAt level) n (length (now alpha)) ⌝ }
-    ensures { λ _. ⌜ ((y : K (levelAt level) .Carrier) → Tabulates (levelAt level) (multiples .words) y → Step (levelAt level) (now (dst .entry)) (now (dst .exit)) (λ f g. Leaves (K (levelAt level)) g stride first count n (el (levelAt level) (now (alpha .entry))) (smallOf (levelAt level) (now (x .entry))) y)) ⌝ }
+    requires { ⌜ Words (levelAt level) (now dst) × Words (levelAt level) (now alpha) × Tabled (levelAt level) multiples × Within (levelAt level) (now x) × (n ≤ length (now x)) × (0 < stride) × (first ≤ count) × Fits (levelAt level) (stride * count) (length (now dst)) × Fits (levelAt level) n (length (now alpha)) ⌝ }
+    ensures { λ _. ⌜ ((y : K (levelAt level) .Carrier) → Multiplies (levelAt level) multiples y → Step (levelAt level) (now (dst .entry)) (now (dst .exit)) (λ f g. Leaves (K (levelAt level)) g stride first count n (el (levelAt level) (now (alpha .entry))) (smallOf (levelAt level) (now (x .entry))) y)) ⌝ }
 {
     let mut at: usize = 0;
     let mut j: usize = 0;

@@ -4,7 +4,7 @@ ghost use Prim.Native.Nat.{ℕ, _+_, _-_, _*_, _^_, _<_, _≤_};
 ghost use lib.ListN.{length, getD};
 ghost use Rattle.field.specs.Level.{levelAt, K};
 ghost use Rattle.field.specs.Word.{odd};
-ghost use Rattle.field.specs.Packed.{Holds, Tabulates};
+ghost use Rattle.field.specs.Packed.{Holds, Multiplies};
 ghost use Rattle.row.specs.Elements.{el, Fits, Words, Within, Bits, Held, Tabled, valueOf};
 ghost use Rattle.row.specs.Lent.{LentKey, smallOf, entryOf, bitOf, elementOf};
 ghost use Rattle.row.specs.Polynomial.{sum, value, columnValue, checkValue};
@@ -20,8 +20,8 @@ use row::products;
 
 // The factor of a table times each of the first n elements of src, written to dst.
 fn scale(dst: &mut [u16], multiples: Multiples, src: &[u16], n: usize, level: usize)
-    requires { ⌜ Words (levelAt level) (now dst) × Words (levelAt level) (now src) × Tabled (levelAt level) (multiples .words) × Fits (levelAt level) n (length (now dst)) × Fits (levelAt level) n (length (now src)) ⌝ }
-    ensures { λ _. ⌜ ((y : K (levelAt level) .Carrier) → Tabulates (levelAt level) (multiples .words) y → Step (levelAt level) (now (dst .entry)) (now (dst .exit)) (λ f g. (j : ℕ) → j < n → g j ≡ K (levelAt level) .mul y (el (levelAt level) (now (src .entry)) j))) ⌝ }
+    requires { ⌜ Words (levelAt level) (now dst) × Words (levelAt level) (now src) × Tabled (levelAt level) multiples × Fits (levelAt level) n (length (now dst)) × Fits (levelAt level) n (length (now src)) ⌝ }
+    ensures { λ _. ⌜ ((y : K (levelAt level) .Carrier) → Multiplies (levelAt level) multiples y → Step (levelAt level) (now (dst .entry)) (now (dst .exit)) (λ f g. (j : ℕ) → j < n → g j ≡ K (levelAt level) .mul y (el (levelAt level) (now (src .entry)) j))) ⌝ }
 {
     let mut j: usize = 0;
     while j < n {
@@ -48,7 +48,7 @@ fn total(src: &[u16], n: usize, level: usize) -> Element
 // Column p becomes the factor of a table times the sum of the columns p and p + h, plus last.
 fn fold(work: &mut [u16], p: usize, h: usize, multiples: Multiples, last: Element, level: usize)
     requires { ⌜ Words (levelAt level) (now work) × Fits (levelAt level) (p + h + 1) (length (now work)) ⌝ }
-    ensures { λ _. ⌜ ((y v : K (levelAt level) .Carrier) → Tabulates (levelAt level) (multiples .words) y → Holds (levelAt level) (last .words) v → Step (levelAt level) (now (work .entry)) (now (work .exit)) (λ f g. Put f g p (K (levelAt level) .add (K (levelAt level) .mul y (K (levelAt level) .add (f p) (f (p + h)))) v))) ⌝ }
+    ensures { λ _. ⌜ ((y v : K (levelAt level) .Carrier) → Multiplies (levelAt level) multiples y → Holds (levelAt level) (last .words) v → Step (levelAt level) (now (work .entry)) (now (work .exit)) (λ f g. Put f g p (K (levelAt level) .add (K (levelAt level) .mul y (K (levelAt level) .add (f p) (f (p + h)))) v))) ⌝ }
 {
     let low = elements::get(work, p, level);
     let high = elements::get(work, p + h, level);
@@ -58,8 +58,8 @@ fn fold(work: &mut [u16], p: usize, h: usize, multiples: Multiples, last: Elemen
 
 // Folds h pairs of columns, h apart, into the first h, where delta times the column that the digit names stands in second.
 fn first_digit(work: &mut [u16], second: &[u16], h: usize, multiples: Multiples, level: usize)
-    requires { ⌜ Words (levelAt level) (now work) × Words (levelAt level) (now second) × Tabled (levelAt level) (multiples .words) × Fits (levelAt level) (h + h) (length (now work)) × Fits (levelAt level) h (length (now second)) ⌝ }
-    ensures { λ _. ⌜ ((y : K (levelAt level) .Carrier) → Tabulates (levelAt level) (multiples .words) y → Step (levelAt level) (now (work .entry)) (now (work .exit)) (λ f g. Folded (K (levelAt level)) f g h y (el (levelAt level) (now (second .entry))) h)) ⌝ }
+    requires { ⌜ Words (levelAt level) (now work) × Words (levelAt level) (now second) × Tabled (levelAt level) multiples × Fits (levelAt level) (h + h) (length (now work)) × Fits (levelAt level) h (length (now second)) ⌝ }
+    ensures { λ _. ⌜ ((y : K (levelAt level) .Carrier) → Multiplies (levelAt level) multiples y → Step (levelAt level) (now (work .entry)) (now (work .exit)) (λ f g. Folded (K (levelAt level)) f g h y (el (levelAt level) (now (second .entry))) h)) ⌝ }
 {
     let mut p: usize = 0;
     while p < h {
@@ -84,8 +84,8 @@ fn digit(
     delta: Multiples,
     level: usize,
 )
-    requires { ⌜ Words (levelAt level) (now work) × Tabled (levelAt level) (multiples .words) × Tabled (levelAt level) (delta .words) × (place ≤ h) × Fits (levelAt level) (h + h) (length (now work)) ⌝ }
-    ensures { λ _. ⌜ ((y Δ : K (levelAt level) .Carrier) → Tabulates (levelAt level) (multiples .words) y → Tabulates (levelAt level) (delta .words) Δ → Step (levelAt level) (now (work .entry)) (now (work .exit)) (λ f g. Folded (K (levelAt level)) f g h y (λ p. K (levelAt level) .mul Δ (f (p + place))) h)) ⌝ }
+    requires { ⌜ Words (levelAt level) (now work) × Tabled (levelAt level) multiples × Tabled (levelAt level) delta × (place ≤ h) × Fits (levelAt level) (h + h) (length (now work)) ⌝ }
+    ensures { λ _. ⌜ ((y Δ : K (levelAt level) .Carrier) → Multiplies (levelAt level) multiples y → Multiplies (levelAt level) delta Δ → Step (levelAt level) (now (work .entry)) (now (work .exit)) (λ f g. Folded (K (levelAt level)) f g h y (λ p. K (levelAt level) .mul Δ (f (p + place))) h)) ⌝ }
 {
     let mut p: usize = 0;
     while p < h {
@@ -106,8 +106,8 @@ fn digits(
     delta: Multiples,
     level: usize,
 ) -> Element
-    requires { ⌜ Words (levelAt level) (now work) × Words (levelAt level) (now numbers) × Bits (now bits) × Tabled (levelAt level) (delta .words) × (1 ≤ d) × (half ≡ 2 ^ (d - 1)) × Fits (levelAt level) half (length (now work)) × Fits (levelAt level) (at + d) (length (now numbers)) × (at + d ≤ length (now bits)) ⌝ }
-    ensures { λ r. ⌜ ((Δ : K (levelAt level) .Carrier) → Tabulates (levelAt level) (delta .words) Δ → Holds (levelAt level) (r .words) (rowTotal (K (levelAt level)) d (λ k. odd (getD (now (bits .entry)) (at + k) 0)) (λ k. el (levelAt level) (now (numbers .entry)) (at + k)) Δ (el (levelAt level) (now (work .entry))) (d - 1))) × Words (levelAt level) (now (work .exit)) ⌝ }
+    requires { ⌜ Words (levelAt level) (now work) × Words (levelAt level) (now numbers) × Bits (now bits) × Tabled (levelAt level) delta × (1 ≤ d) × (half ≡ 2 ^ (d - 1)) × Fits (levelAt level) half (length (now work)) × Fits (levelAt level) (at + d) (length (now numbers)) × (at + d ≤ length (now bits)) ⌝ }
+    ensures { λ r. ⌜ ((Δ : K (levelAt level) .Carrier) → Multiplies (levelAt level) delta Δ → Holds (levelAt level) (r .words) (rowTotal (K (levelAt level)) d (λ k. odd (getD (now (bits .entry)) (at + k) 0)) (λ k. el (levelAt level) (now (numbers .entry)) (at + k)) Δ (el (levelAt level) (now (work .entry))) (d - 1))) × Words (levelAt level) (now (work .exit)) ⌝ }
 {
     let mut h = half;
     let mut k: usize = 1;
@@ -138,9 +138,9 @@ fn row(
     second: &mut [u16],
     level: usize,
 ) -> Element
-    requires { ⌜ Words (levelAt level) (now numbers) × Words (levelAt level) (now alpha) × Words (levelAt level) (now scaled) × Words (levelAt level) (now work) × Words (levelAt level) (now second) × Bits (now bits) × Within (levelAt level) (now x) × Held (levelAt level) (beta .words) × Tabled (levelAt level) (delta .words) ⌝ }
-    requires { ⌜ (1 ≤ d) × (n ≤ 2 ^ d) × (n ≤ length (now x)) × Fits (levelAt level) (at + d) (length (now numbers)) × (at + d ≤ length (now bits)) × Fits (levelAt level) n (length (now alpha)) × Fits (levelAt level) n (length (now scaled)) × Fits (levelAt level) (2 ^ d) (length (now work)) × Fits (levelAt level) (2 ^ d) (length (now second)) × ((Δ : K (levelAt level) .Carrier) → Tabulates (levelAt level) (delta .words) Δ → (j : ℕ) → j < n → el (levelAt level) (now scaled) j ≡ K (levelAt level) .mul Δ (el (levelAt level) (now alpha) j)) ⌝ }
-    ensures { λ r. ⌜ ((Δ : K (levelAt level) .Carrier) → Tabulates (levelAt level) (delta .words) Δ → Holds (levelAt level) (r .words) (sum (K (levelAt level)) n (λ j. K (levelAt level) .mul (leaf (K (levelAt level)) (el (levelAt level) (now (alpha .entry))) (smallOf (levelAt level) (now (x .entry))) (valueOf (levelAt level) (beta .words)) j) (value (K (levelAt level)) d (λ k. odd (getD (now (bits .entry)) (at + k) 0)) (λ k. el (levelAt level) (now (numbers .entry)) (at + k)) Δ j)))) × Words (levelAt level) (now (work .exit)) × Words (levelAt level) (now (second .exit)) ⌝ }
+    requires { ⌜ Words (levelAt level) (now numbers) × Words (levelAt level) (now alpha) × Words (levelAt level) (now scaled) × Words (levelAt level) (now work) × Words (levelAt level) (now second) × Bits (now bits) × Within (levelAt level) (now x) × Held (levelAt level) (beta .words) × Tabled (levelAt level) delta ⌝ }
+    requires { ⌜ (1 ≤ d) × (n ≤ 2 ^ d) × (n ≤ length (now x)) × Fits (levelAt level) (at + d) (length (now numbers)) × (at + d ≤ length (now bits)) × Fits (levelAt level) n (length (now alpha)) × Fits (levelAt level) n (length (now scaled)) × Fits (levelAt level) (2 ^ d) (length (now work)) × Fits (levelAt level) (2 ^ d) (length (now second)) × ((Δ : K (levelAt level) .Carrier) → Multiplies (levelAt level) delta Δ → (j : ℕ) → j < n → el (levelAt level) (now scaled) j ≡ K (levelAt level) .mul Δ (el (levelAt level) (now alpha) j)) ⌝ }
+    ensures { λ r. ⌜ ((Δ : K (levelAt level) .Carrier) → Multiplies (levelAt level) delta Δ → Holds (levelAt level) (r .words) (sum (K (levelAt level)) n (λ j. K (levelAt level) .mul (leaf (K (levelAt level)) (el (levelAt level) (now (alpha .entry))) (smallOf (levelAt level) (now (x .entry))) (valueOf (levelAt level) (beta .words)) j) (value (K (levelAt level)) d (λ k. odd (getD (now (bits .entry)) (at + k) 0)) (λ k. el (levelAt level) (now (numbers .entry)) (at + k)) Δ j)))) × Words (levelAt level) (now (work .exit)) × Words (levelAt level) (now (second .exit)) ⌝ }
 {
     let half = power(d - 1);
     let place = (bits[at] as usize) * half;
@@ -168,9 +168,9 @@ fn all_rows(
     second: &mut [u16],
     level: usize,
 ) -> Element
-    requires { ⌜ Words (levelAt level) (now numbers) × Words (levelAt level) (now alpha) × Words (levelAt level) (now scaled) × Words (levelAt level) (now beta) × Words (levelAt level) (now work) × Words (levelAt level) (now second) × Bits (now bits) × Within (levelAt level) (now x) × Tabled (levelAt level) (delta .words) ⌝ }
-    requires { ⌜ (1 ≤ d) × (n ≤ 2 ^ d) × (n ≤ length (now x)) × Fits (levelAt level) (d * n) (length (now numbers)) × (d * n ≤ length (now bits)) × Fits (levelAt level) n (length (now alpha)) × Fits (levelAt level) n (length (now scaled)) × Fits (levelAt level) n (length (now beta)) × Fits (levelAt level) (2 ^ d) (length (now work)) × Fits (levelAt level) (2 ^ d) (length (now second)) × ((Δ : K (levelAt level) .Carrier) → Tabulates (levelAt level) (delta .words) Δ → (j : ℕ) → j < n → el (levelAt level) (now scaled) j ≡ K (levelAt level) .mul Δ (el (levelAt level) (now alpha) j)) ⌝ }
-    ensures { λ r. ⌜ ((Δ : K (levelAt level) .Carrier) → Tabulates (levelAt level) (delta .words) Δ → Holds (levelAt level) (r .words) (sum (K (levelAt level)) n (λ i. sum (K (levelAt level)) n (λ j. K (levelAt level) .mul (leaf (K (levelAt level)) (el (levelAt level) (now (alpha .entry))) (smallOf (levelAt level) (now (x .entry))) (el (levelAt level) (now (beta .entry)) i) j) (value (K (levelAt level)) d (bitOf d (now (bits .entry)) i) (elementOf (levelAt level) d (now (numbers .entry)) i) Δ j))))) ⌝ }
+    requires { ⌜ Words (levelAt level) (now numbers) × Words (levelAt level) (now alpha) × Words (levelAt level) (now scaled) × Words (levelAt level) (now beta) × Words (levelAt level) (now work) × Words (levelAt level) (now second) × Bits (now bits) × Within (levelAt level) (now x) × Tabled (levelAt level) delta ⌝ }
+    requires { ⌜ (1 ≤ d) × (n ≤ 2 ^ d) × (n ≤ length (now x)) × Fits (levelAt level) (d * n) (length (now numbers)) × (d * n ≤ length (now bits)) × Fits (levelAt level) n (length (now alpha)) × Fits (levelAt level) n (length (now scaled)) × Fits (levelAt level) n (length (now beta)) × Fits (levelAt level) (2 ^ d) (length (now work)) × Fits (levelAt level) (2 ^ d) (length (now second)) × ((Δ : K (levelAt level) .Carrier) → Multiplies (levelAt level) delta Δ → (j : ℕ) → j < n → el (levelAt level) (now scaled) j ≡ K (levelAt level) .mul Δ (el (levelAt level) (now alpha) j)) ⌝ }
+    ensures { λ r. ⌜ ((Δ : K (levelAt level) .Carrier) → Multiplies (levelAt level) delta Δ → Holds (levelAt level) (r .words) (sum (K (levelAt level)) n (λ i. sum (K (levelAt level)) n (λ j. K (levelAt level) .mul (leaf (K (levelAt level)) (el (levelAt level) (now (alpha .entry))) (smallOf (levelAt level) (now (x .entry))) (el (levelAt level) (now (beta .entry)) i) j) (value (K (levelAt level)) d (bitOf d (now (bits .entry)) i) (elementOf (levelAt level) d (now (numbers .entry)) i) Δ j))))) ⌝ }
 {
     let mut all = Element::zero(level);
     let mut at: usize = 0;

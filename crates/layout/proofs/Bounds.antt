@@ -6,7 +6,7 @@ use Prim.Native.Nat.{ℕ, _+_, _-_, _*_, _^_, _≤_, _<_}
 use native.Mathlib.Decide.{decLt}
 use native.Mathlib.Nat.{mul-le-mul}
 use native.Mathlib.Omega.{arith}
-use Rattle.field.specs.Level.{levelAt}
+use Rattle.field.specs.Level.{FIRST, levelAt}
 use Rattle.field.proofs.Fields.{bounded}
 use Rattle.key.specs.declared.Key.{Key}
 use Rattle.key.specs.declared.Lengths.{Lengths}
@@ -36,15 +36,15 @@ degree-some n h b = pick (decLt 0 (degree n))
         let e : degree n ≡ 0 = omega arith in
         absurd (omega (arith, degree-fits n b, ap (λ k. 2 ^ k) e))
 
-pub bounds : (key : Key) → Sized (levelAt 1) key → Bounds (lengths (levelAt 1) key) (degree (key .n))
+pub bounds : (key : Key) → Sized (levelAt FIRST) key → Bounds (lengths (levelAt FIRST) key) (degree (key .n))
 bounds key s =
-    let b = bounded 1 in
+    let b = bounded FIRST in
     let n : key .n ≤ 128 = omega (arith, b .most, s .most) in
     let m : key .m ≤ 128 = omega (arith, s .fewer) in
     let d : degree (key .n) ≤ 7 = omega (arith, degree-lt (key .n) 8 (omega (arith, s .two)) (omega arith) (omega arith)) in
     let sum : key .n + key .m ≤ 256 = omega arith in
     let less : degree (key .n) - 1 ≤ 7 = omega arith in
-    let w : levelAt 1 .coordinates ≤ 32 = omega (arith, b .narrow) in
+    let w : levelAt FIRST .coordinates ≤ 32 = omega (arith, b .narrow) in
     let nd = mul-le-mul n d in
     record {
       some = degree-some (key .n) (s .two) (omega arith);

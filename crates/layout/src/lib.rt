@@ -3,11 +3,12 @@ ghost use mathlib.Core.Path.{_≡_};
 ghost use Prim.Native.Nat.{_+_, _≤_, _<_};
 ghost use lib.ListN.{length, take, getD};
 ghost use Rattle.refusal.specs.Answer.{firstOf};
-ghost use Rattle.field.specs.Level.{levelAt};
+ghost use Rattle.field.specs.Level.{FIRST, levelAt};
 ghost use Rattle.field.specs.Word.{within};
 ghost use Rattle.key.specs.Key.{Sized};
 ghost use Rattle.layout.specs.Layout.{keyRows, groupRows, checkRows, checkFileRows};
 ghost use Rattle.layout.specs.Tests.{word, words, keyAt, keyOf, valueTests, rowTests, tests, fileTests, after, stepped, segment, noRow, partOf};
+use field::FIRST;
 use field::Level;
 use key::Key;
 use refusal::Answer;
@@ -94,9 +95,9 @@ pub fn key_at(s: &[u8], i: usize) -> Key
 
 // Whether each number of two bytes is within the limit.
 fn words_within(c: &[u8]) -> bool
-    ensures { λ r. ⌜ r ≡ within (levelAt 1) (words (now (c .entry))) ⌝ }
+    ensures { λ r. ⌜ r ≡ within (levelAt FIRST) (words (now (c .entry))) ⌝ }
 {
-    let limit = Level::of(1).limit as usize;
+    let limit = Level::of(FIRST).limit as usize;
     let mut i = 0;
     while i < c.len() {
         if c.len() - i < 2 {
@@ -112,10 +113,10 @@ fn words_within(c: &[u8]) -> bool
 
 // P5: the first refusal of a content's values that applies.
 fn values(c: &[u8], kind: Kind) -> Answer
-    ensures { λ r. ⌜ r ≡ firstOf (valueTests (levelAt 1) kind (now (c .entry))) ⌝ }
+    ensures { λ r. ⌜ r ≡ firstOf (valueTests (levelAt FIRST) kind (now (c .entry))) ⌝ }
 {
     match kind {
-        Kind::Sizes => key_at(c, 0).sizes(1),
+        Kind::Sizes => key_at(c, 0).sizes(FIRST),
         Kind::Elements => {
             if words_within(c) {
                 Answer::Done
@@ -144,7 +145,7 @@ fn values(c: &[u8], kind: Kind) -> Answer
 // P1 to P5 of the field at a position.
 fn read_row(s: &[u8], at: usize, row: Row) -> Answer
     requires { ⌜ at ≤ length (now s) ⌝ }
-    ensures { λ r. ⌜ r ≡ firstOf (rowTests (levelAt 1) (now (s .entry)) at row) ⌝ }
+    ensures { λ r. ⌜ r ≡ firstOf (rowTests (levelAt FIRST) (now (s .entry)) at row) ⌝ }
 {
     let tag = row.tag;
     let len = row.len;
@@ -170,10 +171,10 @@ fn read_row(s: &[u8], at: usize, row: Row) -> Answer
 
 // Row k of the key's fields.
 fn key_row(k: usize, key: Key) -> Row
-    requires { ⌜ (k < 3) × Sized (levelAt 1) key ⌝ }
-    ensures { λ r. ⌜ (r ≡ getD (keyRows (levelAt 1) key) k noRow) × (r .len < 65536) ⌝ }
+    requires { ⌜ (k < 3) × Sized (levelAt FIRST) key ⌝ }
+    ensures { λ r. ⌜ (r ≡ getD (keyRows (levelAt FIRST) key) k noRow) × (r .len < 65536) ⌝ }
 {
-    let n = key.lengths(1);
+    let n = key.lengths(FIRST);
     match k {
         0 => Row::SIZES,
         1 => Row {
@@ -191,10 +192,10 @@ fn key_row(k: usize, key: Key) -> Row
 
 // Row k of the fields from the serial to a.
 fn group_row(k: usize, key: Key) -> Row
-    requires { ⌜ (k < 3) × Sized (levelAt 1) key ⌝ }
-    ensures { λ r. ⌜ (r ≡ getD (groupRows (levelAt 1) key) k noRow) × (r .len < 65536) ⌝ }
+    requires { ⌜ (k < 3) × Sized (levelAt FIRST) key ⌝ }
+    ensures { λ r. ⌜ (r ≡ getD (groupRows (levelAt FIRST) key) k noRow) × (r .len < 65536) ⌝ }
 {
-    let n = key.lengths(1);
+    let n = key.lengths(FIRST);
     let d = key.degree();
     match k {
         0 => Row {
@@ -217,10 +218,10 @@ fn group_row(k: usize, key: Key) -> Row
 
 // Row k of the fields that follow a package in a check file.
 fn check_row(k: usize, key: Key) -> Row
-    requires { ⌜ (k < 4) × Sized (levelAt 1) key ⌝ }
-    ensures { λ r. ⌜ (r ≡ getD (checkRows (levelAt 1) key) k noRow) × (r .len < 65536) ⌝ }
+    requires { ⌜ (k < 4) × Sized (levelAt FIRST) key ⌝ }
+    ensures { λ r. ⌜ (r ≡ getD (checkRows (levelAt FIRST) key) k noRow) × (r .len < 65536) ⌝ }
 {
-    let n = key.lengths(1);
+    let n = key.lengths(FIRST);
     let d = key.degree();
     match k {
         0 => Row {
@@ -248,8 +249,8 @@ fn check_row(k: usize, key: Key) -> Row
 
 // Row k of a check file, the first six of which make a package.
 fn row_of(k: usize, key: Key) -> Row
-    requires { ⌜ (k < 10) × Sized (levelAt 1) key ⌝ }
-    ensures { λ r. ⌜ (r ≡ getD (checkFileRows (levelAt 1) key) k noRow) × (r .len < 65536) ⌝ }
+    requires { ⌜ (k < 10) × Sized (levelAt FIRST) key ⌝ }
+    ensures { λ r. ⌜ (r ≡ getD (checkFileRows (levelAt FIRST) key) k noRow) × (r .len < 65536) ⌝ }
 {
     if k < KEY_ROWS {
         return key_row(k, key);
@@ -262,8 +263,8 @@ fn row_of(k: usize, key: Key) -> Row
 
 // The rows of a check file from one to another, read from a position on.
 fn walk(s: &[u8], key: Key, start: usize, from: usize, to: usize) -> Step
-    requires { ⌜ (start ≤ length (now s)) × (from ≤ to) × (to ≤ 10) × Sized (levelAt 1) key ⌝ }
-    ensures { λ r. ⌜ r ≡ stepped (firstOf (tests (levelAt 1) (now (s .entry)) start (segment from to (checkFileRows (levelAt 1) key)))) (after start (segment from to (checkFileRows (levelAt 1) key))) ⌝ }
+    requires { ⌜ (start ≤ length (now s)) × (from ≤ to) × (to ≤ 10) × Sized (levelAt FIRST) key ⌝ }
+    ensures { λ r. ⌜ r ≡ stepped (firstOf (tests (levelAt FIRST) (now (s .entry)) start (segment from to (checkFileRows (levelAt FIRST) key)))) (after start (segment from to (checkFileRows (levelAt FIRST) key))) ⌝ }
 {
     let mut at = start;
     let mut k = from;
@@ -282,7 +283,7 @@ fn walk(s: &[u8], key: Key, start: usize, from: usize, to: usize) -> Step
 // The first so many fields of a check file, and nothing after them.
 pub fn read_file(s: &[u8], count: usize) -> Answer
     requires { ⌜ (0 < count) × (count ≤ 10) ⌝ }
-    ensures { λ r. ⌜ r ≡ firstOf (fileTests (levelAt 1) (take count (checkFileRows (levelAt 1) (keyOf (now (s .entry))))) (now (s .entry))) ⌝ }
+    ensures { λ r. ⌜ r ≡ firstOf (fileTests (levelAt FIRST) (take count (checkFileRows (levelAt FIRST) (keyOf (now (s .entry))))) (now (s .entry))) ⌝ }
 {
     let sizes = read_row(s, 0, Row::SIZES);
     if let Answer::Refused(_) = sizes {
@@ -303,8 +304,8 @@ pub fn read_file(s: &[u8], count: usize) -> Answer
 
 // Where the content of the field with a tag stands among so many fields.
 pub fn part_of(key: Key, count: usize, tag: u8) -> Part
-    requires { ⌜ (count ≤ 10) × Sized (levelAt 1) key ⌝ }
-    ensures { λ r. ⌜ r ≡ partOf tag 0 (take count (checkFileRows (levelAt 1) key)) ⌝ }
+    requires { ⌜ (count ≤ 10) × Sized (levelAt FIRST) key ⌝ }
+    ensures { λ r. ⌜ r ≡ partOf tag 0 (take count (checkFileRows (levelAt FIRST) key)) ⌝ }
 {
     let mut at = 0;
     let mut k = 0;

@@ -5,7 +5,7 @@ use Prim.Native.Nat.{ℕ}
 use lib.Count.{leadingZeros}
 use lib.ListN.{replicate, take, set}
 use Rattle.lists.specs.Words.{all}
-use Rattle.field.specs.Level.{levelAt}
+use Rattle.field.specs.Level.{FIRST, levelAt}
 use Rattle.field.specs.Word.{within}
 use Rattle.key.specs.Key.{degree, below}
 use Rattle.layout.specs.Layout.{packageRows, checkFileRows}
@@ -26,10 +26,10 @@ keyA =
     (0x12 ∷ 0 ∷ 0 ∷ 0x13 ∷ 0 ∷ 0x18 ∷ element 2 (0x14 ∷ 0 ∷ 0x48 ∷ element 1 (element 2 (element 1 []))))))
 
 abbrev readCheck : List ℕ → Read
-readCheck s = reading (levelAt 1) (checkFileRows (levelAt 1)) s
+readCheck s = reading (levelAt FIRST) (checkFileRows (levelAt FIRST)) s
 
 abbrev readPackage : List ℕ → Read
-readPackage s = reading (levelAt 1) (packageRows (levelAt 1)) s
+readPackage s = reading (levelAt FIRST) (packageRows (levelAt FIRST)) s
 
 abbrev refused : ℕ → Read
 refused k = Refused (record { number = k })

@@ -9,7 +9,7 @@ use lib.ListN.{length}
 use Rattle.lists.specs.Words.{part}
 use Rattle.refusal.proofs.Answers.{None}
 use Rattle.field.specs.declared.Level.{Level}
-use Rattle.field.specs.Level.{levelAt}
+use Rattle.field.specs.Level.{FIRST, levelAt}
 use Rattle.field.specs.Word.{within}
 use Rattle.key.specs.declared.Key.{Key}
 use Rattle.key.specs.Key.{Sized, sizes}
@@ -71,10 +71,10 @@ unpackCheck fields = record {
 }
 
 -- fields within the limits fit the rows
-package-fits : (p : Package) → Valid (levelAt 1) p → Fits (levelAt 1) (packageRows (levelAt 1) (p .key)) (packageFields p)
+package-fits : (p : Package) → Valid (levelAt FIRST) p → Fits (levelAt FIRST) (packageRows (levelAt FIRST) (p .key)) (packageFields p)
 unfolding packageRows
 package-fits p v =
-    let l = levelAt 1 in
+    let l = levelAt FIRST in
     let b = bounds (p .key) (v .sized) in (
       record { tag = refl; len = refl; short = omega arith; values = none-sizes l (p .key) (v .sized) },
       (
@@ -93,19 +93,19 @@ package-fits p v =
     )
 
 -- words within the limit are written as bytes
-limit-lt : levelAt 1 .limit < 65536
+limit-lt : levelAt FIRST .limit < 65536
 unfolding levelAt
 limit-lt = omega arith
 
-within-bytes : (s : List ℕ) → within (levelAt 1) s ≡ true → Bytes (wordBytes s)
-within-bytes s e = word-bytes s (λ i. omega (arith, limit-lt, within-le (levelAt 1) s e i))
+within-bytes : (s : List ℕ) → within (levelAt FIRST) s ≡ true → Bytes (wordBytes s)
+within-bytes s e = word-bytes s (λ i. omega (arith, limit-lt, within-le (levelAt FIRST) s e i))
 
-sizes-bytes : (key : Key) → Sized (levelAt 1) key → Bytes (key .n ∷ key .m ∷ [])
+sizes-bytes : (key : Key) → Sized (levelAt FIRST) key → Bytes (key .n ∷ key .m ∷ [])
 sizes-bytes key s zero = omega (arith, bounds key s .vector)
 sizes-bytes key s (suc zero) = omega (arith, bounds key s .vector, s .fewer)
 sizes-bytes key s (suc (suc i)) = omega arith
 
-package-bytes : (p : Package) → Valid (levelAt 1) p → AllBytes (packageFields p)
+package-bytes : (p : Package) → Valid (levelAt FIRST) p → AllBytes (packageFields p)
 package-bytes p v = (
   omega arith,
   sizes-bytes (p .key) (v .sized),
@@ -128,7 +128,7 @@ package-bytes p v = (
   ),
 )
 
-check-bytes : (key : Key) (c : Check) → ValidCheck (levelAt 1) key c → AllBytes (checkFields c)
+check-bytes : (key : Key) (c : Check) → ValidCheck (levelAt FIRST) key c → AllBytes (checkFields c)
 check-bytes key c v = (
   omega arith,
   within-bytes (c .q) (v .q .1),
@@ -167,11 +167,11 @@ sizes-content s h = ap (λ (key : Key). key .n ∷ key .m ∷ []) (sym (key-part
     pair (a ∷ b ∷ d ∷ c) h = absurd (omega arith)
 
 -- fields that were read are within the limits, and are those of their data
-package-valid : (s : List ℕ) → Bytes s → let rows = packageRows (levelAt 1) (keyOf s) in
-    Fits (levelAt 1) rows (cut s 0 rows) → Valid (levelAt 1) (unpackPackage (keyOf s) (cut s 0 rows))
+package-valid : (s : List ℕ) → Bytes s → let rows = packageRows (levelAt FIRST) (keyOf s) in
+    Fits (levelAt FIRST) rows (cut s 0 rows) → Valid (levelAt FIRST) (unpackPackage (keyOf s) (cut s 0 rows))
 unfolding unpackPackage packageRows cut contentOf
 package-valid s b w =
-    let l = levelAt 1 in
+    let l = levelAt FIRST in
     let f = w .1 in
     let g = f .1 .1 in
     record {
@@ -183,11 +183,11 @@ package-valid s b w =
       a = (words-length _ _ (g .1 .1 .0 .len), not-false _ (g .1 .1 .0 .values .0));
     }
 
-package-unpacked : (s : List ℕ) → Bytes s → let rows = packageRows (levelAt 1) (keyOf s) in
-    Fits (levelAt 1) rows (cut s 0 rows) → packageFields (unpackPackage (keyOf s) (cut s 0 rows)) ≡ cut s 0 rows
+package-unpacked : (s : List ℕ) → Bytes s → let rows = packageRows (levelAt FIRST) (keyOf s) in
+    Fits (levelAt FIRST) rows (cut s 0 rows) → packageFields (unpackPackage (keyOf s) (cut s 0 rows)) ≡ cut s 0 rows
 unfolding unpackPackage packageRows cut contentOf
 package-unpacked s b w =
-    let rows = packageRows (levelAt 1) (keyOf s) in
+    let rows = packageRows (levelAt FIRST) (keyOf s) in
     let c : (tag : ℕ) → List ℕ = λ tag. contentOf tag (cut s 0 rows) in
     let all : (tag : ℕ) → Bytes (c tag) = λ tag. content-bytes s b tag 0 rows in
     let f = w .1 in
@@ -199,7 +199,7 @@ package-unpacked s b w =
     (same 0x06 refl
     (same 0x07 (bytes-words (c 0x07) _ (all 0x07) (g .1 .1 .0 .len)) refl)))))
 
-package-laws : FormLaws (levelAt 1) (packageForm (levelAt 1))
+package-laws : FormLaws (levelAt FIRST) (packageForm (levelAt FIRST))
 unfolding joined contentOf
 package-laws = record {
   unpack = unpackPackage;
@@ -211,12 +211,12 @@ package-laws = record {
   unpacked = λ s b w. (package-valid s b w, package-unpacked s b w);
 }
 
-pub package-faithful : Faithful (packageForm (levelAt 1))
-package-faithful = faithful (levelAt 1) (packageForm (levelAt 1)) package-laws
+pub package-faithful : Faithful (packageForm (levelAt FIRST))
+package-faithful = faithful (levelAt FIRST) (packageForm (levelAt FIRST)) package-laws
 
-check-fits : (key : Key) (c : Check) → Sized (levelAt 1) key → ValidCheck (levelAt 1) key c → Fits (levelAt 1) (checkRows (levelAt 1) key) (checkFields c)
+check-fits : (key : Key) (c : Check) → Sized (levelAt FIRST) key → ValidCheck (levelAt FIRST) key c → Fits (levelAt FIRST) (checkRows (levelAt FIRST) key) (checkFields c)
 check-fits key c h v =
-    let l = levelAt 1 in
+    let l = levelAt FIRST in
     let b = bounds key h in (
       fit-words l 0x11 _ Coordinates (c .q) (omega (arith, b .elements)) (v .q) (test-coordinates l),
       (
@@ -231,9 +231,9 @@ check-fits key c h v =
 -- at any position: in a check file it is the end of the package
 module _ (s : List ℕ) (b : Bytes s) (key : Key) (at : ℕ) where
   abbrev fields : List (ℕ × List ℕ)
-  fields = cut s at (checkRows (levelAt 1) key)
+  fields = cut s at (checkRows (levelAt FIRST) key)
 
-  check-valid : Fits (levelAt 1) (checkRows (levelAt 1) key) fields → ValidCheck (levelAt 1) key (unpackCheck fields)
+  check-valid : Fits (levelAt FIRST) (checkRows (levelAt FIRST) key) fields → ValidCheck (levelAt FIRST) key (unpackCheck fields)
   unfolding unpackCheck cut contentOf
   check-valid w =
       let f = w .1 .1 in
@@ -244,11 +244,11 @@ module _ (s : List ℕ) (b : Bytes s) (key : Key) (at : ℕ) where
         alpha = (words-length _ _ (f .1 .0 .len), not-false _ (f .1 .0 .values .0));
       }
 
-  check-unpacked : Fits (levelAt 1) (checkRows (levelAt 1) key) fields → checkFields (unpackCheck fields) ≡ fields
+  check-unpacked : Fits (levelAt FIRST) (checkRows (levelAt FIRST) key) fields → checkFields (unpackCheck fields) ≡ fields
   unfolding unpackCheck cut contentOf
   check-unpacked w =
       let c : (tag : ℕ) → List ℕ = λ tag. contentOf tag fields in
-      let all : (tag : ℕ) → Bytes (c tag) = λ tag. content-bytes s b tag at (checkRows (levelAt 1) key) in
+      let all : (tag : ℕ) → Bytes (c tag) = λ tag. content-bytes s b tag at (checkRows (levelAt FIRST) key) in
       let f = w .1 .1 in
       same 0x11 (bytes-words (c 0x11) _ (all 0x11) (w .0 .len))
       (same 0x12 (bytes-words (c 0x12) _ (all 0x12) (w .1 .0 .len))
@@ -264,27 +264,27 @@ check-file-packed x =
 
 module _ (s : List ℕ) (b : Bytes s) where
   abbrev rows : List Row
-  rows = checkFileRows (levelAt 1) (keyOf s)
+  rows = checkFileRows (levelAt FIRST) (keyOf s)
 
-  check-file-valid : Fits (levelAt 1) rows (cut s 0 rows) → Valid (levelAt 1) (unpackPackage (keyOf s) (cut s 0 rows)) × ValidCheck (levelAt 1) (keyOf s) (unpackCheck (cut s 0 rows))
+  check-file-valid : Fits (levelAt FIRST) rows (cut s 0 rows) → Valid (levelAt FIRST) (unpackPackage (keyOf s) (cut s 0 rows)) × ValidCheck (levelAt FIRST) (keyOf s) (unpackCheck (cut s 0 rows))
   unfolding unpackPackage unpackCheck checkFileRows packageRows cut contentOf after
   check-file-valid w =
-      let l = levelAt 1 in
+      let l = levelAt FIRST in
       let v = fits-split l s 0 (packageRows l (keyOf s)) (checkRows l (keyOf s)) w in
       (package-valid s b (v .0), check-valid s b (keyOf s) (after 0 (packageRows l (keyOf s))) (v .1))
 
-  check-file-unpacked : Fits (levelAt 1) rows (cut s 0 rows) → packageFields (unpackPackage (keyOf s) (cut s 0 rows)) ++ checkFields (unpackCheck (cut s 0 rows)) ≡ cut s 0 rows
+  check-file-unpacked : Fits (levelAt FIRST) rows (cut s 0 rows) → packageFields (unpackPackage (keyOf s) (cut s 0 rows)) ++ checkFields (unpackCheck (cut s 0 rows)) ≡ cut s 0 rows
   unfolding unpackPackage unpackCheck checkFileRows packageRows cut contentOf after
   check-file-unpacked w =
-      let l = levelAt 1 in
+      let l = levelAt FIRST in
       let v = fits-split l s 0 (packageRows l (keyOf s)) (checkRows l (keyOf s)) w in
       ap₂ _++_ (package-unpacked s b (v .0)) (check-unpacked s b (keyOf s) (after 0 (packageRows l (keyOf s))) (v .1))
 
-check-file-laws : FormLaws (levelAt 1) (checkForm (levelAt 1))
+check-file-laws : FormLaws (levelAt FIRST) (checkForm (levelAt FIRST))
 unfolding unpackPackage joined contentOf checkFileRows
 check-file-laws = record {
   unpack = λ key fields. (unpackPackage key fields, unpackCheck fields);
-  fits = λ x v. fits-append (levelAt 1) (packageRows (levelAt 1) (x .0 .key)) (checkRows (levelAt 1) (x .0 .key)) (packageFields (x .0)) (checkFields (x .1)) (package-fits (x .0) (v .0)) (check-fits (x .0 .key) (x .1) (v .0 .sized) (v .1));
+  fits = λ x v. fits-append (levelAt FIRST) (packageRows (levelAt FIRST) (x .0 .key)) (checkRows (levelAt FIRST) (x .0 .key)) (packageFields (x .0)) (checkFields (x .1)) (package-fits (x .0) (v .0)) (check-fits (x .0 .key) (x .1) (v .0 .sized) (v .1));
   bytes = λ x v. all-append (packageFields (x .0)) (checkFields (x .1)) (package-bytes (x .0) (v .0)) (check-bytes (x .0 .key) (x .1) (v .1));
   starts = λ x. refl;
   serial = λ x. refl;
@@ -292,5 +292,5 @@ check-file-laws = record {
   unpacked = λ s b w. (check-file-valid s b w, check-file-unpacked s b w);
 }
 
-pub check-file-faithful : Faithful (checkForm (levelAt 1))
-check-file-faithful = faithful (levelAt 1) (checkForm (levelAt 1)) check-file-laws
+pub check-file-faithful : Faithful (checkForm (levelAt FIRST))
+check-file-faithful = faithful (levelAt FIRST) (checkForm (levelAt FIRST)) check-file-laws

@@ -4,8 +4,8 @@ use mathlib.Core.List.{List}
 use Prim.Native.Nat.{ℕ, _<_}
 use native.Mathlib.Omega.{arith}
 use lib.ListN.{take}
-use Rattle.field.specs.Level.{levelAt}
-use Rattle.field.proofs.Fields.{bounded}
+use Rattle.field.specs.Level.{FIRST, levelAt}
+use Rattle.field.proofs.Fields.{first-most}
 use Rattle.key.specs.declared.Key.{Key}
 use Rattle.key.specs.Key.{Sized}
 use Rattle.layout.specs.declared.Row.{Row}
@@ -20,15 +20,15 @@ use Rattle.perk.specs.Files.{SmallSizes}
 
 -- the first fields of a check file
 abbrev rows : ℕ → Key → List Row
-rows count key = take count (checkFileRows (levelAt 1) key)
+rows count key = take count (checkFileRows (levelAt FIRST) key)
 
-read-sized : (count : ℕ) → 0 < count → (s : List ℕ) {c : Contents} → reading (levelAt 1) (rows count) s ≡ Fields c → Sized (levelAt 1) (record { n = c .n; m = c .m })
+read-sized : (count : ℕ) → 0 < count → (s : List ℕ) {c : Contents} → reading (levelAt FIRST) (rows count) s ≡ Fields c → Sized (levelAt FIRST) (record { n = c .n; m = c .m })
 read-sized count h s e =
     let r = read-accepts (rows count) s e in
-    subst (Sized (levelAt 1)) (sym (r .1)) (file-sized (levelAt 1) s count h (r .0))
+    subst (Sized (levelAt FIRST)) (sym (r .1)) (file-sized (levelAt FIRST) s count h (r .0))
 
-pub read-small : (count : ℕ) → 0 < count → (s : List ℕ) (r : Read) → r ≡ reading (levelAt 1) (rows count) s → SmallSizes r
+pub read-small : (count : ℕ) → 0 < count → (s : List ℕ) (r : Read) → r ≡ reading (levelAt FIRST) (rows count) s → SmallSizes r
 read-small count h s (Refused k) e = tt
 read-small count h s (Fields c) e =
     let z = read-sized count h s (sym e) in
-    (omega (arith, z .most, bounded 1 .most), omega (arith, z .most, z .fewer, bounded 1 .most))
+    (omega (arith, z .most, first-most), omega (arith, z .most, z .fewer, first-most))

@@ -4,7 +4,7 @@ ghost use mathlib.Core.Path.{_≡_};
 ghost use Rattle.refusal.specs.Answer.{numbered};
 ghost use Rattle.refusal.specs.Verdict.{verdictNumber};
 ghost use Rattle.arithmetic.specs.Entry.{sumOutcome, productOutcome};
-ghost use Rattle.field.specs.Level.{levelAt};
+ghost use Rattle.field.specs.Level.{FIRST, levelAt};
 ghost use Rattle.constraints.specs.Entry.{constraintsOutcome, valuesOutcome};
 ghost use Rattle.prover.specs.Entry.{proveOutcome};
 ghost use Rattle.verifier.specs.Entry.{verifyOutcome};
@@ -44,7 +44,7 @@ pub extern "C" fn perk_constraints(
     t: &mut [u8],
     polynomials: &mut [u16],
 ) -> u32
-    ensures { λ r. ⌜ (r, (now (t .exit), now (polynomials .exit))) ≡ numbered (constraintsOutcome (levelAt 1) (record { n = n; m = m }) (now (h .entry)) (now (x .entry)) (now (positions .entry)) (now (u .entry)) (now (v .entry)) (now (t .entry)) (now (polynomials .entry))) ⌝ }
+    ensures { λ r. ⌜ (r, (now (t .exit), now (polynomials .exit))) ≡ numbered (constraintsOutcome (levelAt FIRST) (record { n = n; m = m }) (now (h .entry)) (now (x .entry)) (now (positions .entry)) (now (u .entry)) (now (v .entry)) (now (t .entry)) (now (polynomials .entry))) ⌝ }
 {
     let key = Key { n, m };
     refusal::number(constraints::constraints(key, h, x, positions, u, v, t, polynomials))
@@ -62,7 +62,7 @@ pub extern "C" fn perk_values(
     delta: &[u16],
     values: &mut [u16],
 ) -> u32
-    ensures { λ r. ⌜ (r, now (values .exit)) ≡ numbered (valuesOutcome (levelAt 1) (record { n = n; m = m }) (now (h .entry)) (now (x .entry)) (now (t .entry)) (now (q .entry)) (now (delta .entry)) (now (values .entry))) ⌝ }
+    ensures { λ r. ⌜ (r, now (values .exit)) ≡ numbered (valuesOutcome (levelAt FIRST) (record { n = n; m = m }) (now (h .entry)) (now (x .entry)) (now (t .entry)) (now (q .entry)) (now (delta .entry)) (now (values .entry))) ⌝ }
 {
     let key = Key { n, m };
     refusal::number(constraints::values(key, h, x, t, q, delta, values))
@@ -84,7 +84,7 @@ pub extern "C" fn perk_prove(
     t: &mut [u8],
     a: &mut [u16],
 ) -> u32
-    ensures { λ o. ⌜ (o, (now (t .exit), now (a .exit))) ≡ numbered (proveOutcome (levelAt 1) (record { n = n; m = m }) (now (h .entry)) (now (x .entry)) (now (positions .entry)) (now (u .entry)) (now (v .entry)) (now (r .entry)) (now (s .entry)) (now (alpha .entry)) (now (t .entry)) (now (a .entry))) ⌝ }
+    ensures { λ o. ⌜ (o, (now (t .exit), now (a .exit))) ≡ numbered (proveOutcome (levelAt FIRST) (record { n = n; m = m }) (now (h .entry)) (now (x .entry)) (now (positions .entry)) (now (u .entry)) (now (v .entry)) (now (r .entry)) (now (s .entry)) (now (alpha .entry)) (now (t .entry)) (now (a .entry))) ⌝ }
 {
     let key = Key { n, m };
     refusal::number(prover::prove(key, h, x, positions, u, v, r, s, alpha, t, a))
@@ -104,7 +104,7 @@ pub extern "C" fn perk_verify(
     alpha: &[u16],
     a: &[u16],
 ) -> u32
-    ensures { λ o. ⌜ o ≡ verdictNumber (verifyOutcome (levelAt 1) (record { n = n; m = m }) (now (h .entry)) (now (x .entry)) (now (t .entry)) (now (q .entry)) (now (delta .entry)) (now (masks .entry)) (now (alpha .entry)) (now (a .entry))) ⌝ }
+    ensures { λ o. ⌜ o ≡ verdictNumber (verifyOutcome (levelAt FIRST) (record { n = n; m = m }) (now (h .entry)) (now (x .entry)) (now (t .entry)) (now (q .entry)) (now (delta .entry)) (now (masks .entry)) (now (alpha .entry)) (now (a .entry))) ⌝ }
 {
     let key = Key { n, m };
     refusal::verdict_number(verifier::verify(key, h, x, t, q, delta, masks, alpha, a))
@@ -129,7 +129,7 @@ fn put_read(answer: Read, n: &mut u32, m: &mut u32, serial: &mut u32) -> u32
 // n, m and the serial of a package.
 #[no_mangle]
 pub extern "C" fn perk_read_package(bytes: &[u8], n: &mut u32, m: &mut u32, serial: &mut u32) -> u32
-    ensures { λ r. ⌜ (r, (now (n .exit), now (m .exit), now (serial .exit))) ≡ readPut (reading (levelAt 1) (packageRows (levelAt 1)) (now (bytes .entry))) (now (n .entry), now (m .entry), now (serial .entry)) ⌝ }
+    ensures { λ r. ⌜ (r, (now (n .exit), now (m .exit), now (serial .exit))) ≡ readPut (reading (levelAt FIRST) (packageRows (levelAt FIRST)) (now (bytes .entry))) (now (n .entry), now (m .entry), now (serial .entry)) ⌝ }
 {
     put_read(package::read_package(bytes), n, m, serial)
 }
@@ -142,7 +142,7 @@ pub extern "C" fn perk_read_check_file(
     m: &mut u32,
     serial: &mut u32,
 ) -> u32
-    ensures { λ r. ⌜ (r, (now (n .exit), now (m .exit), now (serial .exit))) ≡ readPut (reading (levelAt 1) (checkFileRows (levelAt 1)) (now (bytes .entry))) (now (n .entry), now (m .entry), now (serial .entry)) ⌝ }
+    ensures { λ r. ⌜ (r, (now (n .exit), now (m .exit), now (serial .exit))) ≡ readPut (reading (levelAt FIRST) (checkFileRows (levelAt FIRST)) (now (bytes .entry))) (now (n .entry), now (m .entry), now (serial .entry)) ⌝ }
 {
     put_read(package::read_check_file(bytes), n, m, serial)
 }
@@ -150,7 +150,7 @@ pub extern "C" fn perk_read_check_file(
 // The length of a field's content in a package, and where it starts.
 #[no_mangle]
 pub extern "C" fn perk_field(bytes: &[u8], tag: u8, start: &mut usize) -> usize
-    ensures { λ r. ⌜ (r, now (start .exit)) ≡ spanOf (fieldPart (levelAt 1) (packageRows (levelAt 1)) (now (bytes .entry)) tag) ⌝ }
+    ensures { λ r. ⌜ (r, now (start .exit)) ≡ spanOf (fieldPart (levelAt FIRST) (packageRows (levelAt FIRST)) (now (bytes .entry)) tag) ⌝ }
 {
     let part = package::field_part(bytes, tag);
     *start = part.start;
@@ -160,7 +160,7 @@ pub extern "C" fn perk_field(bytes: &[u8], tag: u8, start: &mut usize) -> usize
 // Whether a check file's proof is accepted.
 #[no_mangle]
 pub extern "C" fn perk_check(bytes: &[u8]) -> u32
-    ensures { λ r. ⌜ r ≡ checkNumber (checking (levelAt 1) (now (bytes .entry))) ⌝ }
+    ensures { λ r. ⌜ r ≡ checkNumber (checking (levelAt FIRST) (now (bytes .entry))) ⌝ }
 {
     checkfile::number(checkfile::check(bytes))
 }

@@ -10,8 +10,8 @@ use Rattle.lists.proofs.Lent.{each-long}
 use Rattle.refusal.specs.Answer.{firstOf}
 use Rattle.refusal.specs.declared.Answer.the-variants.{Done}
 use Rattle.field.specs.declared.Level.{Level}
-use Rattle.field.specs.Level.{levelAt}
-use Rattle.field.proofs.Fields.{bounded}
+use Rattle.field.specs.Level.{FIRST, levelAt}
+use Rattle.field.proofs.Fields.{first-most, first-narrow}
 use Rattle.row.specs.Elements.{Words, Bits, Fits}
 use Rattle.row.specs.Lent.{LentKey}
 use Rattle.key.specs.declared.Key.{Key}
@@ -71,9 +71,9 @@ module _ (number : ℕ) (key : Key) where
         positions-lt = below-lt (degree (key .n)) positions (c .positions-fine);
       }
 
-  -- the room for n + m elements
-  pub elements-room : Sized l key → Fits l (key .n + key .m) 1524
-  elements-room s = (mul-le-mul (bounded number .narrow) all, omega (arith, all))
-    where
-      all : key .n + key .m ≤ 127
-      all = omega (arith, s .most, s .fewer, bounded number .most)
+-- the room for n + m elements
+pub elements-room : (key : Key) → Sized (levelAt FIRST) key → Fits (levelAt FIRST) (key .n + key .m) 1524
+elements-room key s = (mul-le-mul first-narrow all, omega (arith, all))
+  where
+    all : key .n + key .m ≤ 127
+    all = omega (arith, s .most, s .fewer, first-most)

@@ -7,7 +7,7 @@ ghost use lib.ListN.{length};
 ghost use Rattle.lists.specs.Lent.{long};
 ghost use Rattle.refusal.specs.Answer.{firstOf, decided};
 ghost use Rattle.refusal.specs.declared.Answer.the-variants.{Done};
-ghost use Rattle.field.specs.Level.{levelAt};
+ghost use Rattle.field.specs.Level.{FIRST, levelAt};
 ghost use Rattle.row.specs.Lent.{LentKey};
 ghost use Rattle.key.specs.Key.{Sized, lengths};
 ghost use Rattle.constraints.specs.Entry.{system};
@@ -15,6 +15,7 @@ ghost use Rattle.constraints.specs.Slices.{witnessOf};
 ghost use Rattle.checkzero.specs.Slices.{topsZero};
 ghost use Rattle.prover.specs.Entry.{proveLent, proveRows, topsRow, proveResult, proveOutcome};
 ghost use Rattle.prover.specs.Solved.{Solved};
+use field::FIRST;
 use key::Key;
 use refusal::Answer;
 use refusal::Refusal;
@@ -38,10 +39,10 @@ fn lengths(
     t: &[u8],
     a: &[u16],
 ) -> usize
-    requires { ⌜ Sized (levelAt 1) key ⌝ }
-    ensures { λ o. ⌜ eqb o 0 ≡ long (proveLent (lengths (levelAt 1) key) (now (h .entry)) (now (x .entry)) (now (positions .entry)) (now (u .entry)) (now (v .entry)) (now (r .entry)) (now (s .entry)) (now (alpha .entry)) (now (t .entry)) (now (a .entry))) ⌝ }
+    requires { ⌜ Sized (levelAt FIRST) key ⌝ }
+    ensures { λ o. ⌜ eqb o 0 ≡ long (proveLent (lengths (levelAt FIRST) key) (now (h .entry)) (now (x .entry)) (now (positions .entry)) (now (u .entry)) (now (v .entry)) (now (r .entry)) (now (s .entry)) (now (alpha .entry)) (now (t .entry)) (now (a .entry))) ⌝ }
 {
-    let n = key.lengths(1);
+    let n = key.lengths(FIRST);
     let outputs = (t.len() ^ n.bits) | (a.len() ^ n.proof);
     let masks = (r.len() ^ n.masks) | ((s.len() ^ n.masks) | ((alpha.len() ^ n.values) | outputs));
     let material = (positions.len() ^ n.positions)
@@ -63,30 +64,30 @@ fn refused(
     t: &[u8],
     a: &[u16],
 ) -> Answer
-    ensures { λ o. ⌜ o ≡ firstOf (proveRows (levelAt 1) key (now (h .entry)) (now (x .entry)) (now (positions .entry)) (now (u .entry)) (now (v .entry)) (now (r .entry)) (now (s .entry)) (now (alpha .entry)) (now (t .entry)) (now (a .entry))) ⌝ }
+    ensures { λ o. ⌜ o ≡ firstOf (proveRows (levelAt FIRST) key (now (h .entry)) (now (x .entry)) (now (positions .entry)) (now (u .entry)) (now (v .entry)) (now (r .entry)) (now (s .entry)) (now (alpha .entry)) (now (t .entry)) (now (a .entry))) ⌝ }
 {
-    let sizes = key.sizes(1);
+    let sizes = key.sizes(FIRST);
     if let Answer::Refused(_) = sizes {
         return sizes;
     }
     let slices = lengths(key, h, x, positions, u, v, r, s, alpha, t, a);
-    let elements = field::excess(h, 1) | field::excess(x, 1);
-    let coordinates = field::excess(v, 1)
-        | (field::excess(r, 1) | (field::excess(s, 1) | field::excess(alpha, 1)));
+    let elements = field::excess(h, FIRST) | field::excess(x, FIRST);
+    let coordinates = field::excess(v, FIRST)
+        | (field::excess(r, FIRST) | (field::excess(s, FIRST) | field::excess(alpha, FIRST)));
     let positions = key::over(positions, key.degree());
     key::checks(slices, elements, key::over(u, 1), coordinates, positions)
 }
 
 // Zero exactly when all n + m top coefficients are zero; they do not depend on the offsets. p is room for them, work for 2^d elements.
 fn tops(key: Key, h: &[u16], x: &[u16], positions: &[u8], p: &mut [u16], work: &mut [u16]) -> u16
-    requires { ⌜ Sized (levelAt 1) key × LentKey (levelAt 1) (key .n) (key .m) (now h) (now x) ⌝ }
-    requires { ⌜ (length (now positions) ≡ lengths (levelAt 1) key .positions) × (length (now p) ≡ 1524) × (length (now work) ≡ 5376) ⌝ }
-    ensures { λ o. ⌜ ((v : List ℕ) → eqb o 0 ≡ topsZero (levelAt 1) (system (levelAt 1) key (now (h .entry)) (now (x .entry))) (witnessOf (key .n) (now (positions .entry))) v) ⌝ }
+    requires { ⌜ Sized (levelAt FIRST) key × LentKey (levelAt FIRST) (key .n) (key .m) (now h) (now x) ⌝ }
+    requires { ⌜ (length (now positions) ≡ lengths (levelAt FIRST) key .positions) × (length (now p) ≡ 1524) × (length (now work) ≡ 5376) ⌝ }
+    ensures { λ o. ⌜ ((v : List ℕ) → eqb o 0 ≡ topsZero (levelAt FIRST) (system (levelAt FIRST) key (now (h .entry)) (now (x .entry))) (witnessOf (key .n) (now (positions .entry))) v) ⌝ }
 {
     let n = key.n;
     let m = key.m;
-    rows::tops(p, n, m, key.degree(), h, x, positions, work, 1);
-    checkzero::nonzero(p, n + m, 1)
+    rows::tops(p, n, m, key.degree(), h, x, positions, work, FIRST);
+    checkzero::nonzero(p, n + m, FIRST)
 }
 
 // Where all tops are zero, writes t and a; otherwise refuses with 8. p is room for n + m elements, work for (d + 1) 2^d.
@@ -105,9 +106,9 @@ fn weigh(
     p: &mut [u16],
     work: &mut [u16],
 ) -> Answer
-    requires { ⌜ firstOf (proveRows (levelAt 1) key (now h) (now x) (now positions) (now u) (now v) (now r) (now s) (now alpha) (now t) (now a)) ≡ Done ⌝ }
+    requires { ⌜ firstOf (proveRows (levelAt FIRST) key (now h) (now x) (now positions) (now u) (now v) (now r) (now s) (now alpha) (now t) (now a)) ≡ Done ⌝ }
     requires { ⌜ (length (now p) ≡ 1524) × (length (now work) ≡ 5376) ⌝ }
-    ensures { λ o. ⌜ (o, (now (t .exit), now (a .exit))) ≡ decided (topsRow (levelAt 1) key (now (h .entry)) (now (x .entry)) (now (positions .entry)) (now (v .entry))) (proveResult (levelAt 1) key (now (h .entry)) (now (x .entry)) (now (positions .entry)) (now (u .entry)) (now (v .entry)) (now (r .entry)) (now (s .entry)) (now (alpha .entry))) (now (t .entry), now (a .entry)) ⌝ }
+    ensures { λ o. ⌜ (o, (now (t .exit), now (a .exit))) ≡ decided (topsRow (levelAt FIRST) key (now (h .entry)) (now (x .entry)) (now (positions .entry)) (now (v .entry))) (proveResult (levelAt FIRST) key (now (h .entry)) (now (x .entry)) (now (positions .entry)) (now (u .entry)) (now (v .entry)) (now (r .entry)) (now (s .entry)) (now (alpha .entry))) (now (t .entry), now (a .entry)) ⌝ }
 {
     if tops(key, h, x, positions, p, work) != 0 {
         return Answer::Refused(Refusal::TOP);
@@ -116,7 +117,7 @@ fn weigh(
     let n = key.n;
     let m = key.m;
     let d = key.degree();
-    checkzero::proof(a, n, m, d, h, x, positions, v, alpha, r, s, p, work, 1);
+    checkzero::proof(a, n, m, d, h, x, positions, v, alpha, r, s, p, work, FIRST);
     Answer::Done
 }
 
@@ -134,8 +135,8 @@ fn work(
     t: &mut [u8],
     a: &mut [u16],
 ) -> Answer
-    requires { ⌜ firstOf (proveRows (levelAt 1) key (now h) (now x) (now positions) (now u) (now v) (now r) (now s) (now alpha) (now t) (now a)) ≡ Done ⌝ }
-    ensures { λ o. ⌜ (o, (now (t .exit), now (a .exit))) ≡ decided (topsRow (levelAt 1) key (now (h .entry)) (now (x .entry)) (now (positions .entry)) (now (v .entry))) (proveResult (levelAt 1) key (now (h .entry)) (now (x .entry)) (now (positions .entry)) (now (u .entry)) (now (v .entry)) (now (r .entry)) (now (s .entry)) (now (alpha .entry))) (now (t .entry), now (a .entry)) ⌝ }
+    requires { ⌜ firstOf (proveRows (levelAt FIRST) key (now h) (now x) (now positions) (now u) (now v) (now r) (now s) (now alpha) (now t) (now a)) ≡ Done ⌝ }
+    ensures { λ o. ⌜ (o, (now (t .exit), now (a .exit))) ≡ decided (topsRow (levelAt FIRST) key (now (h .entry)) (now (x .entry)) (now (positions .entry)) (now (v .entry))) (proveResult (levelAt FIRST) key (now (h .entry)) (now (x .entry)) (now (positions .entry)) (now (u .entry)) (now (v .entry)) (now (r .entry)) (now (s .entry)) (now (alpha .entry))) (now (t .entry), now (a .entry)) ⌝ }
 {
     let mut elements = [0u16; ELEMENTS];
     let mut work = [0u16; WORK];
@@ -170,8 +171,8 @@ pub fn prove(
     t: &mut [u8],
     a: &mut [u16],
 ) -> Answer
-    ensures outcome { λ o. ⌜ (o, (now (t .exit), now (a .exit))) ≡ proveOutcome (levelAt 1) key (now (h .entry)) (now (x .entry)) (now (positions .entry)) (now (u .entry)) (now (v .entry)) (now (r .entry)) (now (s .entry)) (now (alpha .entry)) (now (t .entry)) (now (a .entry)) ⌝ }
-    ensures solved { λ o. ⌜ Solved (levelAt 1) key (now (h .entry)) (now (x .entry)) (now (positions .entry)) (now (u .entry)) (now (v .entry)) (now (r .entry)) (now (s .entry)) (now (alpha .entry)) (now (t .entry)) (now (a .entry)) o ⌝ }
+    ensures outcome { λ o. ⌜ (o, (now (t .exit), now (a .exit))) ≡ proveOutcome (levelAt FIRST) key (now (h .entry)) (now (x .entry)) (now (positions .entry)) (now (u .entry)) (now (v .entry)) (now (r .entry)) (now (s .entry)) (now (alpha .entry)) (now (t .entry)) (now (a .entry)) ⌝ }
+    ensures solved { λ o. ⌜ Solved (levelAt FIRST) key (now (h .entry)) (now (x .entry)) (now (positions .entry)) (now (u .entry)) (now (v .entry)) (now (r .entry)) (now (s .entry)) (now (alpha .entry)) (now (t .entry)) (now (a .entry)) o ⌝ }
 {
     let answer = refused(key, h, x, positions, u, v, r, s, alpha, t, a);
     match answer {

@@ -4,9 +4,10 @@ use Prim.Native.Nat.{ℕ, _*_, _^_, _<_, _≤_}
 use lib.ListN.{getD}
 use Rattle.lists.specs.Words.{part}
 use Rattle.field.specs.declared.Level.{Level}
+use Rattle.field.specs.declared.Multiples.{Multiples}
 use Rattle.field.specs.Level.{K}
 use Rattle.field.specs.Word.{element}
-use Rattle.field.specs.Packed.{coordinate, Holds, Tabulates}
+use Rattle.field.specs.Packed.{coordinate, Holds, Multiplies}
 use Rattle.row.specs.Lists.{tab}
 
 -- element number i of a list of words
@@ -38,6 +39,6 @@ abbrev pub Held : Level → List ℕ → Type 0
 Held l ws = Holds l ws (valueOf l ws)
 
 -- a table of multiples, of some element
-pub record Tabled (l : Level) (ts : List ℕ) : Type 0 where
+pub record Tabled (l : Level) (m : Multiples) : Type 0 where
   pub factor : K l .Carrier
-  pub table : Tabulates l ts factor
+  pub table : Multiplies l m factor

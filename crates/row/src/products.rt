@@ -6,7 +6,7 @@ ghost use lib.ListN.{length, getD};
 ghost use Rattle.field.specs.Binary.{bit};
 ghost use Rattle.field.specs.Level.{levelAt, K};
 ghost use Rattle.field.specs.Word.{odd};
-ghost use Rattle.field.specs.Packed.{Holds, Tabulates};
+ghost use Rattle.field.specs.Packed.{Holds, Multiplies};
 ghost use Rattle.row.specs.Elements.{el, Fits, Words, Bits, valueOf, Held, Tabled};
 ghost use Rattle.row.specs.Polynomial.{digit, z, value, raise};
 ghost use Rattle.row.specs.Step.{Step, PutTwo, Factored, Doubled, Twofold};
@@ -28,8 +28,8 @@ fn put_both(buf: &mut [u16], a: usize, b: usize, x: Element, y: Element, w: u64,
 // The polynomial of s coefficients at element a becomes its product with the complement of w times X plus v, at a,
 // and with w times X plus v, at b, for the table of v's multiples. One product with v serves both.
 fn split(buf: &mut [u16], a: usize, b: usize, s: usize, w: u64, multiples: Multiples, level: usize)
-    requires { ⌜ Words (levelAt level) (now buf) × Tabled (levelAt level) (multiples .words) × (w < 2) × (a + s < b) × Fits (levelAt level) (b + s + 1) (length (now buf)) ⌝ }
-    ensures { λ _. ⌜ ((y : K (levelAt level) .Carrier) → Tabulates (levelAt level) (multiples .words) y → Step (levelAt level) (now (buf .entry)) (now (buf .exit)) (λ f g. Factored (K (levelAt level)) f g a b s (odd w) y (s + 1))) ⌝ }
+    requires { ⌜ Words (levelAt level) (now buf) × Tabled (levelAt level) multiples × (w < 2) × (a + s < b) × Fits (levelAt level) (b + s + 1) (length (now buf)) ⌝ }
+    ensures { λ _. ⌜ ((y : K (levelAt level) .Carrier) → Multiplies (levelAt level) multiples y → Step (levelAt level) (now (buf .entry)) (now (buf .exit)) (λ f g. Factored (K (levelAt level)) f g a b s (odd w) y (s + 1))) ⌝ }
 {
     let mut carry = Element::zero(level);
     let mut e: usize = 0;
@@ -52,8 +52,8 @@ fn split(buf: &mut [u16], a: usize, b: usize, s: usize, w: u64, multiples: Multi
 
 // The first h rows of n elements, polynomials of s coefficients, become the first 2 h: each product of its row with either factor.
 fn double(buf: &mut [u16], n: usize, h: usize, s: usize, w: u64, multiples: Multiples, level: usize)
-    requires { ⌜ Words (levelAt level) (now buf) × Tabled (levelAt level) (multiples .words) × (w < 2) × (s < n) × Fits (levelAt level) (n * h + n * h) (length (now buf)) ⌝ }
-    ensures { λ _. ⌜ ((y : K (levelAt level) .Carrier) → Tabulates (levelAt level) (multiples .words) y → Step (levelAt level) (now (buf .entry)) (now (buf .exit)) (λ f g. Doubled (K (levelAt level)) f g n h s (odd w) y h)) ⌝ }
+    requires { ⌜ Words (levelAt level) (now buf) × Tabled (levelAt level) multiples × (w < 2) × (s < n) × Fits (levelAt level) (n * h + n * h) (length (now buf)) ⌝ }
+    ensures { λ _. ⌜ ((y : K (levelAt level) .Carrier) → Multiplies (levelAt level) multiples y → Step (levelAt level) (now (buf .entry)) (now (buf .exit)) (λ f g. Doubled (K (levelAt level)) f g n h s (odd w) y h)) ⌝ }
 {
     let half = n * h;
     let mut a: usize = 0;

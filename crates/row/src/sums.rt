@@ -29,7 +29,7 @@ fn mix(src: &[u16], k: usize, s: usize, x: &[u16], n: usize, level: usize) -> El
     requires { ⌜ Words (levelAt level) (now src) × Within (levelAt level) (now x) × (n ≤ length (now x)) × (k < s) × Fits (levelAt level) (s * n) (length (now src)) ⌝ }
     ensures { λ r. ⌜ Holds (levelAt level) (r .words) (sum (K (levelAt level)) n (λ j. K (levelAt level) .mul (smallOf (levelAt level) (now (x .entry)) j) (el (levelAt level) (now (src .entry)) (s * j + k)))) ⌝ }
 {
-    let mut parts = [0u64; 33];
+    let mut parts = [0u64; field::TABLE];
     let mut at: usize = 0;
     let mut j: usize = 0;
     while j < n {

@@ -5,11 +5,12 @@ ghost use lib.ListN.{length};
 ghost use Rattle.lists.specs.Lent.{long};
 ghost use Rattle.refusal.specs.Answer.{firstOf};
 ghost use Rattle.refusal.specs.declared.Answer.the-variants.{Done};
-ghost use Rattle.field.specs.Level.{levelAt};
+ghost use Rattle.field.specs.Level.{FIRST, levelAt};
 ghost use Rattle.key.specs.Key.{Sized, lengths};
 ghost use Rattle.constraints.specs.Entry.{system};
 ghost use Rattle.checkzero.specs.Slices.{accepts};
 ghost use Rattle.verifier.specs.Entry.{verifyLent, verifyRows, verifyOutcome, Judges};
+use field::FIRST;
 use folding::values;
 use key::Key;
 use refusal::Answer;
@@ -31,10 +32,10 @@ fn lengths(
     alpha: &[u16],
     a: &[u16],
 ) -> usize
-    requires { ⌜ Sized (levelAt 1) key ⌝ }
-    ensures { λ o. ⌜ eqb o 0 ≡ long (verifyLent (lengths (levelAt 1) key) (now (h .entry)) (now (x .entry)) (now (t .entry)) (now (q .entry)) (now (delta .entry)) (now (masks .entry)) (now (alpha .entry)) (now (a .entry))) ⌝ }
+    requires { ⌜ Sized (levelAt FIRST) key ⌝ }
+    ensures { λ o. ⌜ eqb o 0 ≡ long (verifyLent (lengths (levelAt FIRST) key) (now (h .entry)) (now (x .entry)) (now (t .entry)) (now (q .entry)) (now (delta .entry)) (now (masks .entry)) (now (alpha .entry)) (now (a .entry))) ⌝ }
 {
-    let n = key.lengths(1);
+    let n = key.lengths(FIRST);
     let sums = (masks.len() ^ n.masks) | ((alpha.len() ^ n.values) | (a.len() ^ n.proof));
     let material = (t.len() ^ n.bits) | ((q.len() ^ n.elements) | ((delta.len() ^ n.one) | sums));
     (h.len() ^ n.matrix) | ((x.len() ^ n.vector) | material)
@@ -52,17 +53,18 @@ fn refused(
     alpha: &[u16],
     a: &[u16],
 ) -> Answer
-    ensures { λ o. ⌜ o ≡ firstOf (verifyRows (levelAt 1) key (now (h .entry)) (now (x .entry)) (now (t .entry)) (now (q .entry)) (now (delta .entry)) (now (masks .entry)) (now (alpha .entry)) (now (a .entry))) ⌝ }
+    ensures { λ o. ⌜ o ≡ firstOf (verifyRows (levelAt FIRST) key (now (h .entry)) (now (x .entry)) (now (t .entry)) (now (q .entry)) (now (delta .entry)) (now (masks .entry)) (now (alpha .entry)) (now (a .entry))) ⌝ }
 {
-    let sizes = key.sizes(1);
+    let sizes = key.sizes(FIRST);
     if let Answer::Refused(_) = sizes {
         return sizes;
     }
     let slices = lengths(key, h, x, t, q, delta, masks, alpha, a);
-    let elements = field::excess(h, 1) | field::excess(x, 1);
-    let coordinates = field::excess(q, 1)
-        | (field::excess(delta, 1)
-            | (field::excess(masks, 1) | (field::excess(alpha, 1) | field::excess(a, 1))));
+    let elements = field::excess(h, FIRST) | field::excess(x, FIRST);
+    let coordinates = field::excess(q, FIRST)
+        | (field::excess(delta, FIRST)
+            | (field::excess(masks, FIRST)
+                | (field::excess(alpha, FIRST) | field::excess(a, FIRST))));
     key::checks(slices, elements, key::over(t, 1), coordinates, 0)
 }
 
@@ -83,9 +85,9 @@ fn difference(
     columns: &mut [u16],
     second: &mut [u16],
 ) -> u16
-    requires { ⌜ firstOf (verifyRows (levelAt 1) key (now h) (now x) (now t) (now q) (now delta) (now masks) (now alpha) (now a)) ≡ Done ⌝ }
+    requires { ⌜ firstOf (verifyRows (levelAt FIRST) key (now h) (now x) (now t) (now q) (now delta) (now masks) (now alpha) (now a)) ≡ Done ⌝ }
     requires { ⌜ (length (now beta) ≡ 768) × (length (now scaled) ≡ 768) × (length (now columns) ≡ 768) × (length (now second) ≡ 768) ⌝ }
-    ensures { λ o. ⌜ eqb o 0 ≡ accepts (levelAt 1) (system (levelAt 1) key (now (h .entry)) (now (x .entry))) (now (t .entry)) (now (q .entry)) (now (delta .entry)) (now (masks .entry)) (now (alpha .entry)) (now (a .entry)) ⌝ }
+    ensures { λ o. ⌜ eqb o 0 ≡ accepts (levelAt FIRST) (system (levelAt FIRST) key (now (h .entry)) (now (x .entry))) (now (t .entry)) (now (q .entry)) (now (delta .entry)) (now (masks .entry)) (now (alpha .entry)) (now (a .entry)) ⌝ }
 {
     let n = key.n;
     let m = key.m;
@@ -104,12 +106,12 @@ fn difference(
         scaled,
         columns,
         second,
-        1,
+        FIRST,
     );
-    let challenge = elements::get(delta, 0, 1);
-    let expected = values.plus(checkzero::mask_sum(masks, challenge, d - 1, 1), 1);
-    let given = checkzero::evaluate(a, challenge, d, 1);
-    given.plus(expected, 1).nonzero(1)
+    let challenge = elements::get(delta, 0, FIRST);
+    let expected = values.plus(checkzero::mask_sum(masks, challenge, d - 1, FIRST), FIRST);
+    let given = checkzero::evaluate(a, challenge, d, FIRST);
+    given.plus(expected, FIRST).nonzero(FIRST)
 }
 
 // The same, with room of its own.
@@ -124,8 +126,8 @@ fn work(
     alpha: &[u16],
     a: &[u16],
 ) -> u16
-    requires { ⌜ firstOf (verifyRows (levelAt 1) key (now h) (now x) (now t) (now q) (now delta) (now masks) (now alpha) (now a)) ≡ Done ⌝ }
-    ensures { λ o. ⌜ eqb o 0 ≡ accepts (levelAt 1) (system (levelAt 1) key (now (h .entry)) (now (x .entry))) (now (t .entry)) (now (q .entry)) (now (delta .entry)) (now (masks .entry)) (now (alpha .entry)) (now (a .entry)) ⌝ }
+    requires { ⌜ firstOf (verifyRows (levelAt FIRST) key (now h) (now x) (now t) (now q) (now delta) (now masks) (now alpha) (now a)) ≡ Done ⌝ }
+    ensures { λ o. ⌜ eqb o 0 ≡ accepts (levelAt FIRST) (system (levelAt FIRST) key (now (h .entry)) (now (x .entry))) (now (t .entry)) (now (q .entry)) (now (delta .entry)) (now (masks .entry)) (now (alpha .entry)) (now (a .entry)) ⌝ }
 {
     let mut beta = [0u16; COLUMNS];
     let mut scaled = [0u16; COLUMNS];
@@ -160,8 +162,8 @@ pub fn verify(
     alpha: &[u16],
     a: &[u16],
 ) -> Verdict
-    ensures outcome { λ o. ⌜ o ≡ verifyOutcome (levelAt 1) key (now (h .entry)) (now (x .entry)) (now (t .entry)) (now (q .entry)) (now (delta .entry)) (now (masks .entry)) (now (alpha .entry)) (now (a .entry)) ⌝ }
-    ensures judges { λ o. ⌜ Judges (levelAt 1) key (now (h .entry)) (now (x .entry)) (now (t .entry)) (now (q .entry)) (now (delta .entry)) (now (masks .entry)) (now (alpha .entry)) (now (a .entry)) o ⌝ }
+    ensures outcome { λ o. ⌜ o ≡ verifyOutcome (levelAt FIRST) key (now (h .entry)) (now (x .entry)) (now (t .entry)) (now (q .entry)) (now (delta .entry)) (now (masks .entry)) (now (alpha .entry)) (now (a .entry)) ⌝ }
+    ensures judges { λ o. ⌜ Judges (levelAt FIRST) key (now (h .entry)) (now (x .entry)) (now (t .entry)) (now (q .entry)) (now (delta .entry)) (now (masks .entry)) (now (alpha .entry)) (now (a .entry)) o ⌝ }
 {
     match refused(key, h, x, t, q, delta, masks, alpha, a) {
         Answer::Done => {

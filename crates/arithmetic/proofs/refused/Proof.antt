@@ -4,7 +4,7 @@ use mathlib.Core.List.{List, []}
 use borrow.Author.Tests.{eq-eqb, ne-eqb}
 use Rattle.refusal.specs.Answer.{firstOf}
 use Rattle.refusal.proofs.Answers.{pass, stop}
-use Rattle.field.specs.Level.{first, levelAt}
+use Rattle.field.specs.Level.{FIRST, first, levelAt}
 use Rattle.arithmetic.specs.Entry.{long, rows}
 use Rattle.field.proofs.Tested.{fine, above}
 use Rattle.arithmetic.proofs.Lent.{rows1, rows2, rows3, rows4}
@@ -16,11 +16,11 @@ use Rattle.arithmetic.proofs.refused.Statement.{statement}
 use Rattle.arithmetic.proofs.refused.Tie as tie
 
 -- a slice that is long enough, or not
-same : (s : List ℕ) {l : Level} → l ≡ levelAt 1 → length s ≡ l .coordinates → not (long s) ≡ false
+same : (s : List ℕ) {l : Level} → l ≡ levelAt FIRST → length s ≡ l .coordinates → not (long s) ≡ false
 unfolding levelAt
 same s e h = ap not (eq-eqb (length s) (first .coordinates) (h ∙ ap (λ (l : Level). l .coordinates) e))
 
-other : (s : List ℕ) {l : Level} → l ≡ levelAt 1 → (length s ≡ l .coordinates → ⊥) → not (long s) ≡ true
+other : (s : List ℕ) {l : Level} → l ≡ levelAt FIRST → (length s ≡ l .coordinates → ⊥) → not (long s) ≡ true
 unfolding levelAt
 other s e h = ap not (ne-eqb (length s) (first .coordinates) (λ n. h (n ∙ sym (ap (λ (l : Level). l .coordinates) e))))
 

@@ -1,4 +1,4 @@
-use Rattle.field.specs.Level.{levelAt}
+use Rattle.field.specs.Level.{FIRST, levelAt}
 use Rattle.layout.specs.Layout.{checkFileRows}
 use mathlib.Core.Path.{refl, sym, _∙_}
 use Rattle.checkfile.proofs.Joined.{read-accepts, told}
@@ -16,7 +16,7 @@ enum-known-contents : tie.Need-enum-known-contents
 enum-known-contents c = search needs
 
 judge-requires : tie.Need-judge-requires
-judge-requires c κs = read-accepts (checkFileRows (levelAt 1)) (c .before .before .before .before .before .args .bytes .now) (sym (c .before .before .before .read-check-file .ensures) ∙ c .before .contents .given .1)
+judge-requires c κs = read-accepts (checkFileRows (levelAt FIRST)) (c .before .before .before .before .before .args .bytes .now) (sym (c .before .before .before .read-check-file .ensures) ∙ c .before .contents .given .1)
 
 enum-told : tie.Need-enum-told
 enum-told c = search needs

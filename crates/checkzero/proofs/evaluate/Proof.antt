@@ -2,7 +2,7 @@ use mathlib.Core.Path.{subst, _≡_, refl, sym, ap, _∙_}
 use Prim.Native.Nat.{ℕ, suc, _+_, _-_, _≤_}
 use native.Mathlib.Omega.{arith}
 use borrow.Author.Needs.{needs}
-use Rattle.field.specs.Packed.{Holds, Tabulates}
+use Rattle.field.specs.Packed.{Holds, Multiplies}
 use Rattle.field.specs.Level.{levelAt, K}
 use Rattle.field.specs.declared.Level.{Level}
 use Rattle.row.specs.Elements.{el, valueOf}
@@ -13,7 +13,7 @@ use Rattle.checkzero.proofs.evaluate.Tie as tie
 
 abbrev Inv-loop : tie.InvT-loop
 Inv-loop a n level multiples total₀ k₀ total k =
-    (k ≤ n) × ((y : K (levelAt level) .Carrier) → Tabulates (levelAt level) (multiples .words) y → Holds (levelAt level) (total .words) (above (K (levelAt level)) (el (levelAt level) a) y n k))
+    (k ≤ n) × ((y : K (levelAt level) .Carrier) → Multiplies (levelAt level) multiples y → Holds (levelAt level) (total .words) (above (K (levelAt level)) (el (levelAt level) a) y n k))
 
 abbrev μ-loop : tie.MeasureT-loop
 μ-loop a n level multiples total₀ k₀ total k = k

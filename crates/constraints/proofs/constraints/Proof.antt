@@ -1,7 +1,7 @@
 use mathlib.Core.Path.{ap₂, subst₂}
 use mathlib.Core.List.{List}
 use Rattle.refusal.proofs.Answers.{when-done, when-refused, not-both}
-use Rattle.field.specs.Level.{levelAt}
+use Rattle.field.specs.Level.{FIRST, levelAt}
 use Rattle.field.proofs.Fields.{bounded}
 use Rattle.constraints.specs.Slices.{maskedBytes, polynomialWords, witnessOf}
 use Rattle.constraints.specs.Truth.{Truth}
@@ -16,10 +16,10 @@ use Rattle.constraints.proofs.constraints.Statement.{statement}
 use Rattle.constraints.proofs.constraints.Tie as tie
 
 -- what holds of the slices where no refusal applies
-lent : (c : tie.After-enum-told) → let a = c .before .before .before .before .before .before .before .before .before .before .before .before .args in ConstraintsFine 1 (a .key) (a .h .now) (a .x .now) (a .positions .now) (a .u .now) (a .v .now) (a .t .now) (a .polynomials .now)
+lent : (c : tie.After-enum-told) → let a = c .before .before .before .before .before .before .before .before .before .before .before .before .args in ConstraintsFine FIRST (a .key) (a .h .now) (a .x .now) (a .positions .now) (a .u .now) (a .v .now) (a .t .now) (a .polynomials .now)
 lent c =
     let a = c .before .before .before .before .before .before .before .before .before .before .before .before .args in
-    constraints-fine 1 (a .key) (a .h .now) (a .x .now) (a .positions .now) (a .u .now) (a .v .now) (a .t .now) (a .polynomials .now) (sym (c .before .before .constraints-refused .ensures) ∙ c .enum-told .given .1)
+    constraints-fine FIRST (a .key) (a .h .now) (a .x .now) (a .positions .now) (a .u .now) (a .v .now) (a .t .now) (a .polynomials .now) (sym (c .before .before .constraints-refused .ensures) ∙ c .enum-told .given .1)
 
 constraints-refused-requires : tie.Need-constraints-refused-requires
 constraints-refused-requires c κs = search needs
@@ -53,10 +53,10 @@ returns c =
     let t = c .before .before .before .before .before .before .write-masked-witness .ensures (a .h .now) (a .x .now) in
     let p = c .before .before .write-polynomials .ensures in
     let f = lent (c .before .before .before .before .before .before .before .before) in
-    let b = bounded 1 in (
-      when-done (constraintsRows (levelAt 1) (a .key) (a .h .now) (a .x .now) (a .positions .now) (a .u .now) (a .v .now) (a .t .now) (a .polynomials .now)) (maskedBytes (system (levelAt 1) (a .key) (a .h .now) (a .x .now)) (witnessOf (a .key .n) (a .positions .now)) (a .u .now), polynomialWords (levelAt 1) (system (levelAt 1) (a .key) (a .h .now) (a .x .now)) (witnessOf (a .key .n) (a .positions .now)) (a .v .now)) (a .t .now, a .polynomials .now) (c .before .before .before .before .before .before .before .before .before .before .constraints-refused .ensures) (c .before .before .before .before .before .before .before .before .enum-told .given .1) (ap₂ (λ (t p : List ℕ). (t, p)) t p),
-      λ _. subst₂ (Truth (levelAt 1) (a .key .n) (a .key .m) (a .h .now) (a .x .now) (a .positions .now) (a .u .now) (a .v .now)) (sym t) (sym p)
-          (truth (levelAt 1) (b .width) (b .coordinates) (a .key .n) (a .key .m) (a .h .now) (a .x .now) (omega (arith, b .most, f .is-sized .most)) (a .positions .now) (λ i l. f .positions-lt i) (a .u .now) (a .v .now)),
+    let b = bounded FIRST in (
+      when-done (constraintsRows (levelAt FIRST) (a .key) (a .h .now) (a .x .now) (a .positions .now) (a .u .now) (a .v .now) (a .t .now) (a .polynomials .now)) (maskedBytes (system (levelAt FIRST) (a .key) (a .h .now) (a .x .now)) (witnessOf (a .key .n) (a .positions .now)) (a .u .now), polynomialWords (levelAt FIRST) (system (levelAt FIRST) (a .key) (a .h .now) (a .x .now)) (witnessOf (a .key .n) (a .positions .now)) (a .v .now)) (a .t .now, a .polynomials .now) (c .before .before .before .before .before .before .before .before .before .before .constraints-refused .ensures) (c .before .before .before .before .before .before .before .before .enum-told .given .1) (ap₂ (λ (t p : List ℕ). (t, p)) t p),
+      λ _. subst₂ (Truth (levelAt FIRST) (a .key .n) (a .key .m) (a .h .now) (a .x .now) (a .positions .now) (a .u .now) (a .v .now)) (sym t) (sym p)
+          (truth (levelAt FIRST) (b .width) (b .coordinates) (a .key .n) (a .key .m) (a .h .now) (a .x .now) (omega (arith, b .most, f .is-sized .most)) (a .positions .now) (λ i l. f .positions-lt i) (a .u .now) (a .v .now)),
     )
 
 same-length-3 : tie.Need-same-length-3
@@ -70,7 +70,7 @@ unfolding constraintsOutcome
 returns-2 c =
     let a = c .before .before .before .before .before .before .before .before .before .before .before .before .args in
     let e = c .before .before .constraints-refused .ensures in (
-      when-refused (constraintsRows (levelAt 1) (a .key) (a .h .now) (a .x .now) (a .positions .now) (a .u .now) (a .v .now) (a .t .now) (a .polynomials .now)) (maskedBytes (system (levelAt 1) (a .key) (a .h .now) (a .x .now)) (witnessOf (a .key .n) (a .positions .now)) (a .u .now), polynomialWords (levelAt 1) (system (levelAt 1) (a .key) (a .h .now) (a .x .now)) (witnessOf (a .key .n) (a .positions .now)) (a .v .now)) (a .t .now, a .polynomials .now) e (c .enum-told2 .given .1),
+      when-refused (constraintsRows (levelAt FIRST) (a .key) (a .h .now) (a .x .now) (a .positions .now) (a .u .now) (a .v .now) (a .t .now) (a .polynomials .now)) (maskedBytes (system (levelAt FIRST) (a .key) (a .h .now) (a .x .now)) (witnessOf (a .key .n) (a .positions .now)) (a .u .now), polynomialWords (levelAt FIRST) (system (levelAt FIRST) (a .key) (a .h .now) (a .x .now)) (witnessOf (a .key .n) (a .positions .now)) (a .v .now)) (a .t .now, a .polynomials .now) e (c .enum-told2 .given .1),
       λ done. absurd (not-both done (c .enum-told2 .given .1)),
     )
 

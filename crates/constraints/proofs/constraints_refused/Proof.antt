@@ -3,7 +3,7 @@ use Rattle.lists.specs.Lent.{long}
 use Rattle.refusal.specs.Answer.{firstOf}
 use Rattle.refusal.specs.declared.Answer.the-variants.{Done}
 use Rattle.refusal.proofs.Answers.{after-refused, none}
-use Rattle.field.specs.Level.{levelAt}
+use Rattle.field.specs.Level.{FIRST, levelAt}
 use Rattle.field.proofs.Fields.{bounded}
 use Rattle.key.specs.Key.{degree, lengths, sizes, Sized, below, withins, checks}
 use Rattle.key.proofs.Sized.{sized, degree-lt}
@@ -17,11 +17,11 @@ use Rattle.constraints.proofs.constraints_refused.Statement.{statement}
 use Rattle.constraints.proofs.constraints_refused.Tie as tie
 
 -- past the sizes
-passed : (c : tie.After-enum-told2) → firstOf (sizes (levelAt 1) (c .before .before .before .before .before .before .before .before .before .before .args .key)) ≡ Done
+passed : (c : tie.After-enum-told2) → firstOf (sizes (levelAt FIRST) (c .before .before .before .before .before .before .before .before .before .before .args .key)) ≡ Done
 passed c = sym (c .before .before .sizes .ensures) ∙ c .enum-told2 .given .1
 
-is-sized : (c : tie.After-enum-told2) → Sized (levelAt 1) (c .before .before .before .before .before .before .before .before .before .before .args .key)
-is-sized c = let k = c .before .before .before .before .before .before .before .before .before .before .args .key in sized (levelAt 1) k (none (sizes (levelAt 1) k) (passed c))
+is-sized : (c : tie.After-enum-told2) → Sized (levelAt FIRST) (c .before .before .before .before .before .before .before .before .before .before .args .key)
+is-sized c = let k = c .before .before .before .before .before .before .before .before .before .before .args .key in sized (levelAt FIRST) k (none (sizes (levelAt FIRST) k) (passed c))
 
 sizes-requires : tie.Need-sizes-requires
 sizes-requires c κs = search needs
@@ -32,8 +32,8 @@ enum-told c = search needs
 returns : tie.Need-returns
 returns c =
     let a = c .before .before .before .before .before .before .before .before .before .before .args in
-    after-refused (sizes (levelAt 1) (a .key))
-    (checks (long (constraintsLent (lengths (levelAt 1) (a .key)) (a .h .now) (a .x .now) (a .positions .now) (a .u .now) (a .v .now) (a .t .now) (a .p .now))) (withins (levelAt 1) (a .h .now ∷ a .x .now ∷ [])) (below 1 (a .u .now)) (withins (levelAt 1) (a .v .now ∷ [])) (below (degree (a .key .n)) (a .positions .now)))
+    after-refused (sizes (levelAt FIRST) (a .key))
+    (checks (long (constraintsLent (lengths (levelAt FIRST) (a .key)) (a .h .now) (a .x .now) (a .positions .now) (a .u .now) (a .v .now) (a .t .now) (a .p .now))) (withins (levelAt FIRST) (a .h .now ∷ a .x .now ∷ [])) (below 1 (a .u .now)) (withins (levelAt FIRST) (a .v .now ∷ [])) (below (degree (a .key .n)) (a .positions .now)))
     (c .before .before .sizes .ensures) (c .enum-told .given .1)
 
 enum-told-2 : tie.Need-enum-told-2
@@ -54,7 +54,7 @@ degree-requires c κs = omega (arith, is-sized (c .before .before .before) .two)
 over-requires : tie.Need-over-requires
 over-requires c κs =
     let s = is-sized (c .before .before .before .before) in
-    let b = bounded 1 in
+    let b = bounded FIRST in
     omega (arith, c .degree .ensures, degree-lt (c .before .before .before .before .before .before .before .before .before .before .before .before .before .before .args .key .n) 8 (omega (arith, s .two)) (omega (arith, s .most, b .most)) (omega (arith, s .most, b .most)))
 
 over-requires-2 : tie.Need-over-requires-2
@@ -70,13 +70,13 @@ returns-2 : tie.Need-returns-2
 returns-2 c =
     let a = c .before .before .before .before .before .before .before .before .before .before .before .before .before .before .before .before .before .before .args in
     let e = c .before .before .before .before .before .before in
-    told (levelAt 1) (a .key) (long (constraintsLent (lengths (levelAt 1) (a .key)) (a .h .now) (a .x .now) (a .positions .now) (a .u .now) (a .v .now) (a .t .now) (a .p .now))) (withins (levelAt 1) (a .h .now ∷ a .x .now ∷ [])) (below 1 (a .u .now)) (withins (levelAt 1) (a .v .now ∷ [])) (below (degree (a .key .n)) (a .positions .now))
+    told (levelAt FIRST) (a .key) (long (constraintsLent (lengths (levelAt FIRST) (a .key)) (a .h .now) (a .x .now) (a .positions .now) (a .u .now) (a .v .now) (a .t .now) (a .p .now))) (withins (levelAt FIRST) (a .h .now ∷ a .x .now ∷ [])) (below 1 (a .u .now)) (withins (levelAt FIRST) (a .v .now ∷ [])) (below (degree (a .key .n)) (a .positions .now))
     (passed (e .before .before))
     (c .checks .ensures)
     (e .before .constraints-lengths .ensures)
-    (withins-more (levelAt 1) (a .h .now) (a .x .now ∷ []) (e .excess .result) (c .before .before .before .before .before .excess2 .result) (e .excess .ensures) (withins-last (levelAt 1) (a .x .now) (c .before .before .before .before .before .excess2 .result) (c .before .before .before .before .before .excess2 .ensures)))
+    (withins-more (levelAt FIRST) (a .h .now) (a .x .now ∷ []) (e .excess .result) (c .before .before .before .before .before .excess2 .result) (e .excess .ensures) (withins-last (levelAt FIRST) (a .x .now) (c .before .before .before .before .before .excess2 .result) (c .before .before .before .before .before .excess2 .ensures)))
     (c .before .before .over2 .ensures)
-    (withins-last (levelAt 1) (a .v .now) (c .before .excess3 .result) (c .before .excess3 .ensures))
+    (withins-last (levelAt FIRST) (a .v .now) (c .before .excess3 .result) (c .before .excess3 .ensures))
     (c .before .before .before .over .ensures ∙ ap (λ d. below d (a .positions .now)) (c .before .before .before .before .degree .ensures))
 
 pub constraints-refused-spec : {M : Type 1} → statement M

@@ -1,5 +1,5 @@
 use Rattle.refusal.proofs.Answers.{when-done, when-refused}
-use Rattle.field.specs.Level.{levelAt}
+use Rattle.field.specs.Level.{FIRST, levelAt}
 use Rattle.constraints.specs.Slices.{valueWords}
 use Rattle.constraints.proofs.Fine.{values-fine}
 use Rattle.constraints.specs.Entry.{valuesRows, valuesOutcome, system}
@@ -17,7 +17,7 @@ enum-told c = search needs
 write-values-requires : tie.Need-write-values-requires
 write-values-requires c κs =
     let a = c .before .before .before .before .before .before .before .before .before .before .before .args in
-    let f = values-fine 1 (a .key) (a .h .now) (a .x .now) (a .t .now) (a .q .now) (a .delta .now) (a .values .now) (sym (c .before .before .before .values-refused .ensures) ∙ c .before .enum-told .given .1) in
+    let f = values-fine FIRST (a .key) (a .h .now) (a .x .now) (a .t .now) (a .q .now) (a .delta .now) (a .values .now) (sym (c .before .before .before .values-refused .ensures) ∙ c .before .enum-told .given .1) in
     ((f .is-sized, f .is-key, f .t-bits, f .q-words, f .Δ-words), (f .t-length, f .q-length, f .Δ-length, f .p-length))
 
 enum-told-2 : tie.Need-enum-told-2
@@ -30,7 +30,7 @@ returns : tie.Need-returns
 unfolding valuesOutcome
 returns c =
     let a = c .before .before .before .before .before .before .before .before .before .before .before .before .before .before .args in
-    when-done (valuesRows (levelAt 1) (a .key) (a .h .now) (a .x .now) (a .t .now) (a .q .now) (a .delta .now) (a .values .now)) (valueWords (levelAt 1) (system (levelAt 1) (a .key) (a .h .now) (a .x .now)) (a .t .now) (a .q .now) (a .delta .now)) (a .values .now) (c .before .before .before .before .before .before .values-refused .ensures) (c .before .before .before .before .enum-told .given .1) (c .before .before .write-values .ensures)
+    when-done (valuesRows (levelAt FIRST) (a .key) (a .h .now) (a .x .now) (a .t .now) (a .q .now) (a .delta .now) (a .values .now)) (valueWords (levelAt FIRST) (system (levelAt FIRST) (a .key) (a .h .now) (a .x .now)) (a .t .now) (a .q .now) (a .delta .now)) (a .values .now) (c .before .before .before .before .before .before .values-refused .ensures) (c .before .before .before .before .enum-told .given .1) (c .before .before .write-values .ensures)
 
 same-length-2 : tie.Need-same-length-2
 same-length-2 c = search needs
@@ -39,7 +39,7 @@ returns-2 : tie.Need-returns-2
 unfolding valuesOutcome
 returns-2 c =
     let a = c .before .before .before .before .before .before .before .before .before .before .args in
-    when-refused (valuesRows (levelAt 1) (a .key) (a .h .now) (a .x .now) (a .t .now) (a .q .now) (a .delta .now) (a .values .now)) (valueWords (levelAt 1) (system (levelAt 1) (a .key) (a .h .now) (a .x .now)) (a .t .now) (a .q .now) (a .delta .now)) (a .values .now) (c .before .before .values-refused .ensures) (c .enum-told2 .given .1)
+    when-refused (valuesRows (levelAt FIRST) (a .key) (a .h .now) (a .x .now) (a .t .now) (a .q .now) (a .delta .now) (a .values .now)) (valueWords (levelAt FIRST) (system (levelAt FIRST) (a .key) (a .h .now) (a .x .now)) (a .t .now) (a .q .now) (a .delta .now)) (a .values .now) (c .before .before .values-refused .ensures) (c .enum-told2 .given .1)
 
 pub values-spec : {M : Type 1} → statement M
 values-spec =

@@ -1,5 +1,5 @@
 use mathlib.Core.List.{List}
-use Rattle.field.specs.Level.{levelAt}
+use Rattle.field.specs.Level.{FIRST, levelAt}
 use Rattle.constraints.specs.Slices.{elementAt}
 use Rattle.constraints.proofs.Done.{values-done}
 use Prim.Native.Nat.{ℕ}
@@ -26,7 +26,7 @@ same-length-3 c = search needs
 returns : tie.Need-returns
 returns c written valued honest j l =
     let a = c .before .before .before .before .before .before .before .before .before .before .before .before .before .before .before .before .before .before .before .before .before .before .args in
-    ap (λ (s : List ℕ). elementAt (levelAt 1) s j) (values-done (levelAt 1) (a .key) (a .h .now) (a .x .now) _ (a .q .now) (a .delta .now) (a .values .now) (c .before .before .values .ensures) valued)
+    ap (λ (s : List ℕ). elementAt (levelAt FIRST) s j) (values-done (levelAt FIRST) (a .key) (a .h .now) (a .x .now) _ (a .q .now) (a .delta .now) (a .values .now) (c .before .before .values .ensures) valued)
     ∙ c .before .before .before .before .before .before .before .before .before .constraints .ensures .1 written .agrees .each (a .q .now) (a .delta .now) honest j l
 
 pub agreement-spec : {M : Type 1} → statement M

@@ -1,4 +1,5 @@
 use borrow.Author.Needs.{needs}
+use Rattle.field.specs.Level.{FIRST}
 use Rattle.examples.proofs.Accepted.{accepted}
 use Rattle.examples.proofs.completeness.Statement.{statement}
 use Rattle.examples.proofs.completeness.Tie as tie
@@ -19,7 +20,7 @@ returns : tie.Need-returns
 returns c =
     let a = c .before .before .before .before .before .before .before .before .before .before .before .before .before .before .before .before .before .before .before .before .before .before .before .args in
     let p = c .before .before .before .before .before .before .before .prove .ensures in
-    accepted 1 (a .key) (a .h .now) (a .x .now) (a .positions .now) (a .u .now) (a .v .now) (a .r .now) (a .s .now) (a .alpha .now) (a .t .now) (a .a .now) (a .q .now) (a .delta .now) (a .masks .now) (p .0) (p .1) (c .verify .ensures .0)
+    accepted FIRST (a .key) (a .h .now) (a .x .now) (a .positions .now) (a .u .now) (a .v .now) (a .r .now) (a .s .now) (a .alpha .now) (a .t .now) (a .a .now) (a .q .now) (a .delta .now) (a .masks .now) (p .0) (p .1) (c .verify .ensures .0)
 
 pub completeness-spec : {M : Type 1} → statement M
 completeness-spec =

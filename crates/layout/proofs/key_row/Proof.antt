@@ -3,7 +3,7 @@ use mathlib.Core.Path.{_≡_, refl}
 use native.Mathlib.Omega.{arith}
 use borrow.Author.Needs.{needs}
 use lib.ListN.{getD}
-use Rattle.field.specs.Level.{levelAt}
+use Rattle.field.specs.Level.{FIRST, levelAt}
 use Rattle.key.specs.declared.Lengths.{Lengths}
 use Rattle.key.specs.Key.{degree, lengths}
 use Rattle.layout.specs.declared.Row.{Row}
@@ -20,8 +20,8 @@ bound c = rw (c .lengths .ensures) (bounds (c .before .args .key) (c .before .pr
 -- the row of the code's numbers is row k
 is-row : (c : tie.After-lengths) (k : ℕ) (row : Lengths → ℕ → Row) →
     let a = c .before .args in
-    row (lengths (levelAt 1) (a .key)) (degree (a .key .n)) ≡ getD (keyRows (levelAt 1) (a .key)) k noRow → a .k ≡ k → row (c .lengths .result) (degree (c .before .args .key .n)) ≡ getD (keyRows (levelAt 1) (a .key)) (a .k) noRow
-is-row c k row e h = row-at (keyRows (levelAt 1) (c .before .args .key)) row k (c .lengths .ensures) (refl) e h
+    row (lengths (levelAt FIRST) (a .key)) (degree (a .key .n)) ≡ getD (keyRows (levelAt FIRST) (a .key)) k noRow → a .k ≡ k → row (c .lengths .result) (degree (c .before .args .key .n)) ≡ getD (keyRows (levelAt FIRST) (a .key)) (a .k) noRow
+is-row c k row e h = row-at (keyRows (levelAt FIRST) (c .before .args .key)) row k (c .lengths .ensures) (refl) e h
 
 lengths-requires : tie.Need-lengths-requires
 lengths-requires c κs = search needs

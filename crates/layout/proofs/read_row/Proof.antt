@@ -5,7 +5,7 @@ use native.Mathlib.Nat.{add-sub-cancel-left}
 use borrow.Author.Tests.{lt-ltb, le-ltb, eq-eqb, ne-eqb}
 use Rattle.lists.specs.Words.{part}
 use Rattle.refusal.specs.Answer.{firstOf}
-use Rattle.field.specs.Level.{levelAt}
+use Rattle.field.specs.Level.{FIRST, levelAt}
 use Rattle.layout.specs.Tests.{valueTests, rowTests}
 use Rattle.layout.proofs.Rows.{row-whole}
 use Rattle.layout.proofs.read_row.Statement.{statement}
@@ -74,8 +74,8 @@ returns-5 c =
     let g = e .before .before in
     let a = g .before .before .before .before .args in
     c .values .ensures
-    ∙ ap (λ n. firstOf (valueTests (levelAt 1) (a .row .kind) (part (a .at + 3) n (a .s .now)))) (add-sub-cancel-left (a .at + 3) (a .row .len))
-    ∙ row-whole (levelAt 1) (a .s .now) (a .at) (a .row) (g .before .before .if1 .left) (e .before .if2 .left) (sym (g .word-at .ensures .0) ∙ e .if3 .left) (f .if4 .left)
+    ∙ ap (λ n. firstOf (valueTests (levelAt FIRST) (a .row .kind) (part (a .at + 3) n (a .s .now)))) (add-sub-cancel-left (a .at + 3) (a .row .len))
+    ∙ row-whole (levelAt FIRST) (a .s .now) (a .at) (a .row) (g .before .before .if1 .left) (e .before .if2 .left) (sym (g .word-at .ensures .0) ∙ e .if3 .left) (f .if4 .left)
 
 pub read-row-spec : {M : Type 1} → statement M
 read-row-spec =

@@ -5,7 +5,7 @@ use native.Mathlib.Omega.{arith}
 use borrow.Author.Needs.{needs}
 use lib.ListN.{length, getD, List·getD-append}
 use lib.Seq.{getD-append-add}
-use Rattle.field.specs.Level.{levelAt}
+use Rattle.field.specs.Level.{FIRST, levelAt}
 use Rattle.layout.specs.declared.Row.{Row}
 use Rattle.layout.specs.Layout.{keyRows, groupRows, checkRows, packageRows, checkFileRows}
 use Rattle.layout.specs.Tests.{noRow}
@@ -28,7 +28,7 @@ returns : tie.Need-returns
 unfolding checkFileRows packageRows
 returns c =
     let a = c .before .before .args in
-    let l = levelAt 1 in
+    let l = levelAt FIRST in
     (first (packageRows l (a .key)) (checkRows l (a .key)) (a .k) (omega arith) (first (keyRows l (a .key)) (groupRows l (a .key)) (a .k) (omega arith) (c .key-row .ensures .0)), c .key-row .ensures .1)
 
 group-row-requires : tie.Need-group-row-requires
@@ -38,7 +38,7 @@ returns-2 : tie.Need-returns-2
 unfolding checkFileRows packageRows
 returns-2 c =
     let a = c .before .before .before .args in
-    let l = levelAt 1 in
+    let l = levelAt FIRST in
     (first (packageRows l (a .key)) (checkRows l (a .key)) (a .k) (omega arith) (second (keyRows l (a .key)) (groupRows l (a .key)) (a .k) (omega arith) (c .group-row .ensures .0)), c .group-row .ensures .1)
 
 check-row-requires : tie.Need-check-row-requires
@@ -48,7 +48,7 @@ returns-3 : tie.Need-returns-3
 unfolding checkFileRows packageRows
 returns-3 c =
     let a = c .before .before .before .args in
-    let l = levelAt 1 in
+    let l = levelAt FIRST in
     (second (packageRows l (a .key)) (checkRows l (a .key)) (a .k) (omega arith) (c .check-row .ensures .0), c .check-row .ensures .1)
 
 pub row-of-spec : {M : Type 1} → statement M

@@ -1,7 +1,7 @@
 use mathlib.Core.Path.{ap, _∙_}
 use borrow.Author.Needs.{needs}
 use Rattle.refusal.specs.Answer.{firstOf}
-use Rattle.field.specs.Level.{levelAt}
+use Rattle.field.specs.Level.{FIRST, levelAt}
 use Rattle.field.proofs.Tested.{fine, above}
 use Rattle.key.specs.declared.Key.{Key}
 use Rattle.key.specs.Key.{sizes}
@@ -39,7 +39,7 @@ words-within-requires-2 : tie.Need-words-within-requires-2
 words-within-requires-2 c κs = search needs
 
 returns : tie.Need-returns
-returns c = rw (c .before .before .enum-told .given .1) (c .sizes .ensures ∙ ap (λ (k : Key). firstOf (sizes (levelAt 1) k)) (c .before .key-at .ensures))
+returns c = rw (c .before .before .enum-told .given .1) (c .sizes .ensures ∙ ap (λ (k : Key). firstOf (sizes (levelAt FIRST) k)) (c .before .key-at .ensures))
 
 returns-2 : tie.Need-returns-2
 returns-2 c = rw (c .before .before .enum-told2 .given .1, ← c .before .words-within .ensures, c .if1 .taken)

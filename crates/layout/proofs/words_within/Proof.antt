@@ -4,7 +4,7 @@ use native.Mathlib.Omega.{arith}
 use lib.ListN.{length, drop}
 use borrow.Author.Needs.{needs}
 use Rattle.field.specs.declared.Level.{Level}
-use Rattle.field.specs.Level.{levelAt}
+use Rattle.field.specs.Level.{FIRST, levelAt}
 use Rattle.field.specs.Word.{within}
 use Rattle.layout.specs.Tests.{words}
 use Rattle.layout.proofs.Words.{words-stop, words-go, words-end}
@@ -12,12 +12,12 @@ use Rattle.layout.proofs.words_within.Statement.{statement}
 use Rattle.layout.proofs.words_within.Tie as tie
 
 abbrev Inv-loop : tie.InvT-loop
-Inv-loop c limit i₀ i = (i ≤ length c) × (within (levelAt 1) (words (drop i c)) ≡ within (levelAt 1) (words c))
+Inv-loop c limit i₀ i = (i ≤ length c) × (within (levelAt FIRST) (words (drop i c)) ≡ within (levelAt FIRST) (words c))
 
 abbrev μ-loop : tie.MeasureT-loop
 μ-loop c limit i₀ i = length c - i
 
-limit : (c : tie.After-of Inv-loop μ-loop) → c .of .result .limit ≡ levelAt 1 .limit
+limit : (c : tie.After-of Inv-loop μ-loop) → c .of .result .limit ≡ levelAt FIRST .limit
 limit c = ap (λ (l : Level). l .limit) (c .of .ensures)
 
 of-requires : tie.Need-of-requires Inv-loop μ-loop
@@ -35,7 +35,7 @@ sub-if1 c = search needs
 returns : tie.Need-returns Inv-loop μ-loop
 returns c =
     let l = c .before .before .loop in
-    words-end (levelAt 1) _ (l .i) (omega arith) ∙ l .inv .1
+    words-end (levelAt FIRST) _ (l .i) (omega arith) ∙ l .inv .1
 
 word-at-requires : tie.Need-word-at-requires Inv-loop μ-loop
 word-at-requires c κs = omega arith
@@ -43,7 +43,7 @@ word-at-requires c κs = omega arith
 returns-2 : tie.Need-returns-2 Inv-loop μ-loop
 returns-2 c =
     let l = c .before .before .before .before .loop in
-    words-stop (levelAt 1) _ (l .i) (omega arith) (omega (arith, limit (c .before .before .before .before .before .before))) ∙ l .inv .1
+    words-stop (levelAt FIRST) _ (l .i) (omega arith) (omega (arith, limit (c .before .before .before .before .before .before))) ∙ l .inv .1
 
 add-i : tie.Need-add-i Inv-loop μ-loop
 add-i c = search needs
@@ -54,12 +54,12 @@ loop-less c = search needs
 loop-again : tie.Need-loop-again Inv-loop μ-loop
 loop-again c =
     let l = c .before .before .before .before .loop in
-    (omega arith, words-go (levelAt 1) _ (l .i) (omega arith) (omega (arith, limit (c .before .before .before .before .before .before))) ∙ l .inv .1)
+    (omega arith, words-go (levelAt FIRST) _ (l .i) (omega arith) (omega (arith, limit (c .before .before .before .before .before .before))) ∙ l .inv .1)
 
 returns-3 : tie.Need-returns-3 Inv-loop μ-loop
 returns-3 c =
     let l = c .before .loop in
-    words-end (levelAt 1) _ (l .i) (omega arith) ∙ l .inv .1
+    words-end (levelAt FIRST) _ (l .i) (omega arith) ∙ l .inv .1
 
 pub words-within-spec : {M : Type 1} → statement M
 words-within-spec =

@@ -5,7 +5,7 @@ use native.Mathlib.Omega.{arith}
 use lib.ListN.{length, take}
 use borrow.Author.Needs.{needs}
 use Rattle.lists.specs.Words.{part}
-use Rattle.field.specs.Level.{levelAt}
+use Rattle.field.specs.Level.{FIRST, levelAt}
 use Rattle.key.specs.declared.Key.{Key}
 use Rattle.layout.specs.declared.Part.{Part}
 use Rattle.layout.specs.Layout.{packageRows, checkFileRows}
@@ -16,23 +16,23 @@ use Rattle.package.proofs.check_field.Statement.{statement}
 use Rattle.package.proofs.check_field.Tie as tie
 
 -- the part is the one that the reader would locate
-located : (c : tie.After-part-of) → c .part-of .result ≡ fieldPart (levelAt 1) (checkFileRows (levelAt 1)) (c .before .before .before .args .bytes .now) (c .before .before .before .args .tag)
+located : (c : tie.After-part-of) → c .part-of .result ≡ fieldPart (levelAt FIRST) (checkFileRows (levelAt FIRST)) (c .before .before .before .args .bytes .now) (c .before .before .before .args .tag)
 unfolding packageRows checkFileRows
 located c =
     let a = c .before .before .before .args in
-    c .part-of .ensures ∙ ap (λ (k : Key). partOf (a .tag) 0 (take 10 (checkFileRows (levelAt 1) k))) (c .before .key-at .ensures)
-    ∙ ap (λ r. partIf r (partOf (a .tag) 0 (checkFileRows (levelAt 1) (keyOf (a .bytes .now))))) (sym (c .before .before .before .pre))
+    c .part-of .ensures ∙ ap (λ (k : Key). partOf (a .tag) 0 (take 10 (checkFileRows (levelAt FIRST) k))) (c .before .key-at .ensures)
+    ∙ ap (λ r. partIf r (partOf (a .tag) 0 (checkFileRows (levelAt FIRST) (keyOf (a .bytes .now))))) (sym (c .before .before .before .pre))
 
 -- it lies within the bytes
 within : (c : tie.After-part-of) → c .part-of .result .start + c .part-of .result .len ≤ length (c .before .before .before .args .bytes .now)
-within c = subst (λ (p : Part). p .start + p .len ≤ length (c .before .before .before .args .bytes .now)) (sym (located c)) (field-within (levelAt 1) (checkFileRows (levelAt 1)) (c .before .before .before .args .bytes .now) (c .before .before .before .args .tag))
+within c = subst (λ (p : Part). p .start + p .len ≤ length (c .before .before .before .args .bytes .now)) (sym (located c)) (field-within (levelAt FIRST) (checkFileRows (levelAt FIRST)) (c .before .before .before .args .bytes .now) (c .before .before .before .args .tag))
 
 key-at-requires : tie.Need-key-at-requires
 key-at-requires c κs = search needs
 
 part-of-requires : tie.Need-part-of-requires
 unfolding packageRows checkFileRows
-part-of-requires c κs = (omega arith, rw (c .key-at .ensures) (file-sized (levelAt 1) (c .before .before .args .bytes .now) 10 (omega arith) (c .before .before .pre)))
+part-of-requires c κs = (omega arith, rw (c .key-at .ensures) (file-sized (levelAt FIRST) (c .before .before .args .bytes .now) 10 (omega arith) (c .before .before .pre)))
 
 add-end : tie.Need-add-end
 add-end c = omega (arith, within (c .before), c .before .before .before .before .good)

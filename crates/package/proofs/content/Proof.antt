@@ -5,7 +5,7 @@ use native.Mathlib.Omega.{arith}
 use lib.ListN.{length, take}
 use borrow.Author.Needs.{needs}
 use Rattle.lists.specs.Words.{part}
-use Rattle.field.specs.Level.{levelAt}
+use Rattle.field.specs.Level.{FIRST, levelAt}
 use Rattle.layout.specs.declared.Part.{Part}
 use Rattle.layout.specs.Layout.{checkFileRows}
 use Rattle.package.proofs.Accepted.{field-within}
@@ -16,7 +16,7 @@ use Rattle.package.proofs.content.Tie as tie
 within : (c : tie.After-located) → c .located .result .start + c .located .result .len ≤ length (c .before .before .args .bytes .now)
 within c =
     let a = c .before .before .args in
-    subst (λ (p : Part). p .start + p .len ≤ length (a .bytes .now)) (sym (c .located .ensures)) (field-within (levelAt 1) (λ key. take (a .count) (checkFileRows (levelAt 1) key)) (a .bytes .now) (a .tag))
+    subst (λ (p : Part). p .start + p .len ≤ length (a .bytes .now)) (sym (c .located .ensures)) (field-within (levelAt FIRST) (λ key. take (a .count) (checkFileRows (levelAt FIRST) key)) (a .bytes .now) (a .tag))
 
 located-requires : tie.Need-located-requires
 located-requires c κs = c .before .pre

@@ -4,7 +4,7 @@ use lib.ListN.{take}
 use borrow.Author.Needs.{needs}
 use Rattle.refusal.specs.Answer.{firstOf}
 use Rattle.refusal.specs.declared.Answer.the-variants.{Done}
-use Rattle.field.specs.Level.{levelAt}
+use Rattle.field.specs.Level.{FIRST, levelAt}
 use Rattle.key.specs.declared.Key.{Key}
 use Rattle.layout.specs.declared.Part.{Part}
 use Rattle.layout.specs.Layout.{checkFileRows}
@@ -15,16 +15,16 @@ use Rattle.package.proofs.read_fields.Tie as tie
 
 accepted : (c : tie.After-enum-told) →
     let a = c .before .before .before .before .args in
-    firstOf (fileTests (levelAt 1) (take (a .count) (checkFileRows (levelAt 1) (keyOf (a .bytes .now)))) (a .bytes .now)) ≡ Done
+    firstOf (fileTests (levelAt FIRST) (take (a .count) (checkFileRows (levelAt FIRST) (keyOf (a .bytes .now)))) (a .bytes .now)) ≡ Done
 accepted c = sym (c .before .before .read-file .ensures) ∙ c .enum-told .given .1
 
 -- where the serial stands
 found : (c : tie.After-part-of) →
     let a = c .before .before .before .before .before .before .args in
-    c .part-of .result .start ≡ partOf 0x05 0 (take (a .count) (checkFileRows (levelAt 1) (keyOf (a .bytes .now)))) .start
+    c .part-of .result .start ≡ partOf 0x05 0 (take (a .count) (checkFileRows (levelAt FIRST) (keyOf (a .bytes .now)))) .start
 found c =
     let a = c .before .before .before .before .before .before .args in
-    ap (λ (p : Part). p .start) (c .part-of .ensures ∙ ap (λ (k : Key). partOf 0x05 0 (take (a .count) (checkFileRows (levelAt 1) k))) (c .before .key-at .ensures))
+    ap (λ (p : Part). p .start) (c .part-of .ensures ∙ ap (λ (k : Key). partOf 0x05 0 (take (a .count) (checkFileRows (levelAt FIRST) k))) (c .before .key-at .ensures))
 
 read-file-requires : tie.Need-read-file-requires
 read-file-requires c κs = (omega arith, c .before .pre .1)
@@ -42,14 +42,14 @@ part-of-requires : tie.Need-part-of-requires
 part-of-requires c κs =
     let t = c .before in
     let a = t .before .before .before .before .args in
-    (t .before .before .before .before .pre .1, rw (c .key-at .ensures) (file-sized (levelAt 1) (a .bytes .now) (a .count) (omega arith) (accepted t)))
+    (t .before .before .before .before .pre .1, rw (c .key-at .ensures) (file-sized (levelAt FIRST) (a .bytes .now) (a .count) (omega arith) (accepted t)))
 
 word-at-requires : tie.Need-word-at-requires
 word-at-requires c κs =
     let t = c .before .before in
     let a = t .before .before .before .before .args in
-    let h = file-within (levelAt 1) (a .bytes .now) 0x05 _ (accepted t) in
-    let len = serial-len (levelAt 1) (keyOf (a .bytes .now)) (a .count) (t .before .before .before .before .pre .0) in
+    let h = file-within (levelAt FIRST) (a .bytes .now) 0x05 _ (accepted t) in
+    let len = serial-len (levelAt FIRST) (keyOf (a .bytes .now)) (a .count) (t .before .before .before .before .pre .0) in
     omega (arith, found c)
 
 cast-t10 : tie.Need-cast-t10

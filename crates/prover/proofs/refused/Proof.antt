@@ -4,7 +4,7 @@ use Rattle.lists.specs.Lent.{long}
 use Rattle.refusal.specs.Answer.{firstOf}
 use Rattle.refusal.specs.declared.Answer.the-variants.{Done}
 use Rattle.refusal.proofs.Answers.{after-refused, none}
-use Rattle.field.specs.Level.{levelAt}
+use Rattle.field.specs.Level.{FIRST, levelAt}
 use Rattle.field.proofs.Fields.{bounded}
 use Rattle.key.specs.Key.{degree, lengths, sizes, Sized, below, withins, checks}
 use Rattle.key.proofs.Sized.{sized, degree-lt}
@@ -18,11 +18,11 @@ use Rattle.prover.proofs.refused.Statement.{statement}
 use Rattle.prover.proofs.refused.Tie as tie
 
 -- past the sizes
-passed : (c : tie.After-enum-told2) → firstOf (sizes (levelAt 1) (c .before .before .before .before .before .before .before .before .before .before .before .before .before .args .key)) ≡ Done
+passed : (c : tie.After-enum-told2) → firstOf (sizes (levelAt FIRST) (c .before .before .before .before .before .before .before .before .before .before .before .before .before .args .key)) ≡ Done
 passed c = sym (c .before .before .sizes .ensures) ∙ c .enum-told2 .given .1
 
-is-sized : (c : tie.After-enum-told2) → Sized (levelAt 1) (c .before .before .before .before .before .before .before .before .before .before .before .before .before .args .key)
-is-sized c = let k = c .before .before .before .before .before .before .before .before .before .before .before .before .before .args .key in sized (levelAt 1) k (none (sizes (levelAt 1) k) (passed c))
+is-sized : (c : tie.After-enum-told2) → Sized (levelAt FIRST) (c .before .before .before .before .before .before .before .before .before .before .before .before .before .args .key)
+is-sized c = let k = c .before .before .before .before .before .before .before .before .before .before .before .before .before .args .key in sized (levelAt FIRST) k (none (sizes (levelAt FIRST) k) (passed c))
 
 sizes-requires : tie.Need-sizes-requires
 sizes-requires c κs = search needs
@@ -33,7 +33,7 @@ enum-told c = search needs
 returns : tie.Need-returns
 returns c =
     let a = c .before .before .before .before .before .before .before .before .before .before .before .before .before .args in
-    after-refused (sizes (levelAt 1) (a .key)) (checks (long (proveLent (lengths (levelAt 1) (a .key)) (a .h .now) (a .x .now) (a .positions .now) (a .u .now) (a .v .now) (a .r .now) (a .s .now) (a .alpha .now) (a .t .now) (a .a .now))) (withins (levelAt 1) (a .h .now ∷ a .x .now ∷ [])) (below 1 (a .u .now)) (withins (levelAt 1) (a .v .now ∷ a .r .now ∷ a .s .now ∷ a .alpha .now ∷ [])) (below (degree (a .key .n)) (a .positions .now))) (c .before .before .sizes .ensures) (c .enum-told .given .1)
+    after-refused (sizes (levelAt FIRST) (a .key)) (checks (long (proveLent (lengths (levelAt FIRST) (a .key)) (a .h .now) (a .x .now) (a .positions .now) (a .u .now) (a .v .now) (a .r .now) (a .s .now) (a .alpha .now) (a .t .now) (a .a .now))) (withins (levelAt FIRST) (a .h .now ∷ a .x .now ∷ [])) (below 1 (a .u .now)) (withins (levelAt FIRST) (a .v .now ∷ a .r .now ∷ a .s .now ∷ a .alpha .now ∷ [])) (below (degree (a .key .n)) (a .positions .now))) (c .before .before .sizes .ensures) (c .enum-told .given .1)
 
 enum-told-2 : tie.Need-enum-told-2
 enum-told-2 c = search needs
@@ -65,7 +65,7 @@ degree-requires c κs = omega (arith, is-sized (c .before .before .before .befor
 over-requires : tie.Need-over-requires
 over-requires c κs =
     let s = is-sized (c .before .before .before .before .before .before .before .before) in
-    let b = bounded 1 in
+    let b = bounded FIRST in
     omega (arith, c .degree .ensures, degree-lt (c .before .before .before .before .before .before .before .before .before .before .before .before .before .before .before .before .before .before .before .before .before .args .key .n) 8 (omega (arith, s .two)) (omega (arith, s .most, b .most)) (omega (arith, s .most, b .most)))
 
 over-requires-2 : tie.Need-over-requires-2
@@ -77,10 +77,10 @@ checks-requires c κs = search needs
 returns-2 : tie.Need-returns-2
 returns-2 c =
     let a = c .before .before .before .before .before .before .before .before .before .before .before .before .before .before .before .before .before .before .before .before .before .before .before .before .args in
-    told (levelAt 1) (a .key) (long (proveLent (lengths (levelAt 1) (a .key)) (a .h .now) (a .x .now) (a .positions .now) (a .u .now) (a .v .now) (a .r .now) (a .s .now) (a .alpha .now) (a .t .now) (a .a .now))) (withins (levelAt 1) (a .h .now ∷ a .x .now ∷ [])) (below 1 (a .u .now)) (withins (levelAt 1) (a .v .now ∷ a .r .now ∷ a .s .now ∷ a .alpha .now ∷ [])) (below (degree (a .key .n)) (a .positions .now)) (passed (c .before .before .before .before .before .before .before .before .before .before .before)) (c .checks .ensures) (c .before .before .before .before .before .before .before .before .before .before .lengths .ensures)
-    (withins-more (levelAt 1) (a .h .now) (a .x .now ∷ []) (c .before .before .before .before .before .before .before .before .before .excess .result) (c .before .before .before .before .before .before .before .before .excess2 .result) (c .before .before .before .before .before .before .before .before .before .excess .ensures) (withins-last (levelAt 1) (a .x .now) (c .before .before .before .before .before .before .before .before .excess2 .result) (c .before .before .before .before .before .before .before .before .excess2 .ensures)))
+    told (levelAt FIRST) (a .key) (long (proveLent (lengths (levelAt FIRST) (a .key)) (a .h .now) (a .x .now) (a .positions .now) (a .u .now) (a .v .now) (a .r .now) (a .s .now) (a .alpha .now) (a .t .now) (a .a .now))) (withins (levelAt FIRST) (a .h .now ∷ a .x .now ∷ [])) (below 1 (a .u .now)) (withins (levelAt FIRST) (a .v .now ∷ a .r .now ∷ a .s .now ∷ a .alpha .now ∷ [])) (below (degree (a .key .n)) (a .positions .now)) (passed (c .before .before .before .before .before .before .before .before .before .before .before)) (c .checks .ensures) (c .before .before .before .before .before .before .before .before .before .before .lengths .ensures)
+    (withins-more (levelAt FIRST) (a .h .now) (a .x .now ∷ []) (c .before .before .before .before .before .before .before .before .before .excess .result) (c .before .before .before .before .before .before .before .before .excess2 .result) (c .before .before .before .before .before .before .before .before .before .excess .ensures) (withins-last (levelAt FIRST) (a .x .now) (c .before .before .before .before .before .before .before .before .excess2 .result) (c .before .before .before .before .before .before .before .before .excess2 .ensures)))
     (c .before .over2 .ensures)
-    (withins-more (levelAt 1) (a .v .now) (a .r .now ∷ a .s .now ∷ a .alpha .now ∷ []) (c .before .before .before .before .before .before .before .excess3 .result) (bitOr (c .before .before .before .before .before .before .excess4 .result) (bitOr (c .before .before .before .before .before .excess5 .result) (c .before .before .before .before .excess6 .result))) (c .before .before .before .before .before .before .before .excess3 .ensures) (withins-more (levelAt 1) (a .r .now) (a .s .now ∷ a .alpha .now ∷ []) (c .before .before .before .before .before .before .excess4 .result) (bitOr (c .before .before .before .before .before .excess5 .result) (c .before .before .before .before .excess6 .result)) (c .before .before .before .before .before .before .excess4 .ensures) (withins-more (levelAt 1) (a .s .now) (a .alpha .now ∷ []) (c .before .before .before .before .before .excess5 .result) (c .before .before .before .before .excess6 .result) (c .before .before .before .before .before .excess5 .ensures) (withins-last (levelAt 1) (a .alpha .now) (c .before .before .before .before .excess6 .result) (c .before .before .before .before .excess6 .ensures)))))
+    (withins-more (levelAt FIRST) (a .v .now) (a .r .now ∷ a .s .now ∷ a .alpha .now ∷ []) (c .before .before .before .before .before .before .before .excess3 .result) (bitOr (c .before .before .before .before .before .before .excess4 .result) (bitOr (c .before .before .before .before .before .excess5 .result) (c .before .before .before .before .excess6 .result))) (c .before .before .before .before .before .before .before .excess3 .ensures) (withins-more (levelAt FIRST) (a .r .now) (a .s .now ∷ a .alpha .now ∷ []) (c .before .before .before .before .before .before .excess4 .result) (bitOr (c .before .before .before .before .before .excess5 .result) (c .before .before .before .before .excess6 .result)) (c .before .before .before .before .before .before .excess4 .ensures) (withins-more (levelAt FIRST) (a .s .now) (a .alpha .now ∷ []) (c .before .before .before .before .before .excess5 .result) (c .before .before .before .before .excess6 .result) (c .before .before .before .before .before .excess5 .ensures) (withins-last (levelAt FIRST) (a .alpha .now) (c .before .before .before .before .excess6 .result) (c .before .before .before .before .excess6 .ensures)))))
     (c .before .before .over .ensures ∙ ap (λ d. below d (a .positions .now)) (c .before .before .before .degree .ensures))
 
 pub refused-spec : {M : Type 1} → statement M

@@ -7,7 +7,7 @@ use lib.ListN.{length}
 use borrow.Author.Needs.{needs}
 use Rattle.lists.specs.Words.{concat}
 use Rattle.refusal.proofs.Answers.{when-done, when-refused, pass, stop}
-use Rattle.field.specs.Level.{levelAt, K}
+use Rattle.field.specs.Level.{FIRST, levelAt, K}
 use Rattle.field.specs.Word.{words}
 use Rattle.field.proofs.Fields.{bounded}
 use Rattle.field.proofs.Tested.{fine, above}
@@ -28,8 +28,8 @@ use Rattle.prover.proofs.Weighed.{proof-same}
 use Rattle.prover.proofs.weigh.Statement.{statement}
 use Rattle.prover.proofs.weigh.Tie as tie
 
-lent : (c : tie.Start) → let a = c .args in ProveFine 1 (a .key) (a .h .now) (a .x .now) (a .positions .now) (a .u .now) (a .v .now) (a .r .now) (a .s .now) (a .alpha .now) (a .t .now) (a .a .now)
-lent c = let a = c .args in prove-fine 1 (a .key) (a .h .now) (a .x .now) (a .positions .now) (a .u .now) (a .v .now) (a .r .now) (a .s .now) (a .alpha .now) (a .t .now) (a .a .now) (c .pre .0)
+lent : (c : tie.Start) → let a = c .args in ProveFine FIRST (a .key) (a .h .now) (a .x .now) (a .positions .now) (a .u .now) (a .v .now) (a .r .now) (a .s .now) (a .alpha .now) (a .t .now) (a .a .now)
+lent c = let a = c .args in prove-fine FIRST (a .key) (a .h .now) (a .x .now) (a .positions .now) (a .u .now) (a .v .now) (a .r .now) (a .s .now) (a .alpha .now) (a .t .now) (a .a .now) (c .pre .0)
 
 tops-requires : tie.Need-tops-requires
 tops-requires c κs =
@@ -38,7 +38,7 @@ tops-requires c κs =
     ((f .is-sized, f .is-key), (f .positions-length, s .pre .1 .0, s .pre .1 .1))
 
 -- the test of the tops
-tested : (c : tie.After-tops) → let a = c .before .before .before .before .before .before .before .before .before .before .before .before .before .before .before .args in eqb (c .tops .result) 0 ≡ topsZero (levelAt 1) (system (levelAt 1) (a .key) (a .h .now) (a .x .now)) (witnessOf (a .key .n) (a .positions .now)) (a .v .now)
+tested : (c : tie.After-tops) → let a = c .before .before .before .before .before .before .before .before .before .before .before .before .before .before .before .args in eqb (c .tops .result) 0 ≡ topsZero (levelAt FIRST) (system (levelAt FIRST) (a .key) (a .h .now) (a .x .now)) (witnessOf (a .key .n) (a .positions .now)) (a .v .now)
 tested c = c .tops .ensures (c .before .before .before .before .before .before .before .before .before .before .before .before .before .before .before .args .v .now)
 
 same-length : tie.Need-same-length
@@ -50,7 +50,7 @@ same-length-2 c = search needs
 returns : tie.Need-returns
 returns c =
     let a = c .before .before .before .before .before .before .before .before .before .before .before .before .before .before .before .before .before .before .before .before .args in
-    when-refused (topsRow (levelAt 1) (a .key) (a .h .now) (a .x .now) (a .positions .now) (a .v .now)) (proveResult (levelAt 1) (a .key) (a .h .now) (a .x .now) (a .positions .now) (a .u .now) (a .v .now) (a .r .now) (a .s .now) (a .alpha .now)) (a .t .now, a .a .now) (sym (stop 8 [] (above (tested (c .before .before .before .before .before)) (c .if1 .taken)))) refl
+    when-refused (topsRow (levelAt FIRST) (a .key) (a .h .now) (a .x .now) (a .positions .now) (a .v .now)) (proveResult (levelAt FIRST) (a .key) (a .h .now) (a .x .now) (a .positions .now) (a .u .now) (a .v .now) (a .r .now) (a .s .now) (a .alpha .now)) (a .t .now, a .a .now) (sym (stop 8 [] (above (tested (c .before .before .before .before .before)) (c .if1 .taken)))) refl
 
 write-masked-witness-requires : tie.Need-write-masked-witness-requires
 write-masked-witness-requires c κs =
@@ -67,22 +67,22 @@ proof-requires c κs =
     let n = a .key .n in
     let m = a .key .m in
     let f = lent s in
-    let r = room 1 (a .key) (f .is-sized) in
-    let z = bounded 1 .coordinates in
+    let r = room (a .key) (f .is-sized) in
+    let z = bounded FIRST .coordinates in
     let t = c .before .before .before .before .before .before .before .before .before .before .before .before .before .tops in
-    subst (λ d. (LentKey (levelAt 1) n m (a .h .now) (a .x .now) × Words (levelAt 1) (a .v .now) × Words (levelAt 1) (a .alpha .now) × Words (levelAt 1) (a .r .now) × Words (levelAt 1) (a .s .now))
-    × (((0 < levelAt 1 .coordinates) × (1 ≤ d) × (d < 64) × (n ≤ 2 ^ d) × (length (a .positions .now) ≡ n) × (length (a .v .now) ≡ levelAt 1 .coordinates * (d * n)) × (length (a .a .now) ≡ levelAt 1 .coordinates * d))
-    × (Fits (levelAt 1) (n + m) (length (a .alpha .now)) × Fits (levelAt 1) (d - 1) (length (a .r .now)) × Fits (levelAt 1) (d - 1) (length (a .s .now)) × Fits (levelAt 1) n (length (t .last .1 .1 .1 .1 .0)) × Fits (levelAt 1) ((d + 1) * 2 ^ d) (length (t .last .1 .1 .1 .1 .1 .0)))))
+    subst (λ d. (LentKey (levelAt FIRST) n m (a .h .now) (a .x .now) × Words (levelAt FIRST) (a .v .now) × Words (levelAt FIRST) (a .alpha .now) × Words (levelAt FIRST) (a .r .now) × Words (levelAt FIRST) (a .s .now))
+    × (((0 < levelAt FIRST .coordinates) × (1 ≤ d) × (d < 64) × (n ≤ 2 ^ d) × (length (a .positions .now) ≡ n) × (length (a .v .now) ≡ levelAt FIRST .coordinates * (d * n)) × (length (a .a .now) ≡ levelAt FIRST .coordinates * d))
+    × (Fits (levelAt FIRST) (n + m) (length (a .alpha .now)) × Fits (levelAt FIRST) (d - 1) (length (a .r .now)) × Fits (levelAt FIRST) (d - 1) (length (a .s .now)) × Fits (levelAt FIRST) n (length (t .last .1 .1 .1 .1 .0)) × Fits (levelAt FIRST) ((d + 1) * 2 ^ d) (length (t .last .1 .1 .1 .1 .1 .0)))))
     (sym (c .before .before .before .degree .ensures)) (
       (f .is-key, f .v-words, f .α-words, f .r-words, f .s-words),
       (
-        (z, degree-some n (f .is-sized .two) (omega (arith, f .is-sized .most, bounded 1 .most)), r .d-lt, r .columns, f .positions-length, f .v-length ∙ elements-columns 1 (a .key), f .a-length),
+        (z, degree-some n (f .is-sized .two) (omega (arith, f .is-sized .most, bounded FIRST .most)), r .d-lt, r .columns, f .positions-length, f .v-length ∙ elements-columns FIRST (a .key), f .a-length),
         (
-          fits-all (levelAt 1) (n + m) z (f .α-length),
-          fits-all (levelAt 1) (degree n - 1) z (f .r-length),
-          fits-all (levelAt 1) (degree n - 1) z (f .s-length),
-          fits-le (levelAt 1) n (n + m) (omega arith) (t .kept .1 .1 .1 .1 .0 ∙ s .pre .1 .0) (elements-room 1 (a .key) (f .is-sized)),
-          fits-le (levelAt 1) ((degree n + 1) * 2 ^ degree n) ((degree n + 1) * 2 ^ degree n) (omega arith) (t .kept .1 .1 .1 .1 .1 .0 ∙ s .pre .1 .1) (r .polynomials),
+          fits-all (levelAt FIRST) (n + m) z (f .α-length),
+          fits-all (levelAt FIRST) (degree n - 1) z (f .r-length),
+          fits-all (levelAt FIRST) (degree n - 1) z (f .s-length),
+          fits-le (levelAt FIRST) n (n + m) (omega arith) (t .kept .1 .1 .1 .1 .0 ∙ s .pre .1 .0) (elements-room (a .key) (f .is-sized)),
+          fits-le (levelAt FIRST) ((degree n + 1) * 2 ^ degree n) ((degree n + 1) * 2 ^ degree n) (omega arith) (t .kept .1 .1 .1 .1 .1 .0 ∙ s .pre .1 .1) (r .polynomials),
         ),
       ),
     )
@@ -104,11 +104,11 @@ returns-2 c =
     let a = c .before .before .before .before .before .before .before .before .before .before .before .before .before .before .before .before .before .before .before .before .before .before .before .before .before .before .before .before .before .before .before .before .before .before .before .args in
     let n = a .key .n in
     let m = a .key .m in
-    when-done (topsRow (levelAt 1) (a .key) (a .h .now) (a .x .now) (a .positions .now) (a .v .now)) (proveResult (levelAt 1) (a .key) (a .h .now) (a .x .now) (a .positions .now) (a .u .now) (a .v .now) (a .r .now) (a .s .now) (a .alpha .now)) (a .t .now, a .a .now) (sym (pass 8 [] (fine (tested (c .before .before .before .before .before .before .before .before .before .before .before .before .before .before .before .before .before .before .before .before)) (c .before .before .before .before .before .before .before .before .before .before .before .before .before .before .before .if1 .left)))) refl
+    when-done (topsRow (levelAt FIRST) (a .key) (a .h .now) (a .x .now) (a .positions .now) (a .v .now)) (proveResult (levelAt FIRST) (a .key) (a .h .now) (a .x .now) (a .positions .now) (a .u .now) (a .v .now) (a .r .now) (a .s .now) (a .alpha .now)) (a .t .now, a .a .now) (sym (pass 8 [] (fine (tested (c .before .before .before .before .before .before .before .before .before .before .before .before .before .before .before .before .before .before .before .before)) (c .before .before .before .before .before .before .before .before .before .before .before .before .before .before .before .if1 .left)))) refl
     (ap₂ (λ (t a : List ℕ). (t, a)) (c .before .before .before .before .before .before .before .before .before .before .before .before .before .write-masked-witness .ensures (a .h .now) (a .x .now))
     (c .before .before .before .before .before .before .proof .ensures
-    ∙ ap (λ d. concat d (λ k. words (levelAt 1) (K (levelAt 1) .add (weightedAt (levelAt 1) n m d (a .h .now) (a .x .now) (a .positions .now) (a .v .now) (a .alpha .now) k) (mask (K (levelAt 1)) (d - 1) (el (levelAt 1) (a .r .now)) (el (levelAt 1) (a .s .now)) k)))) (c .before .before .before .before .before .before .before .before .before .before .degree .ensures)
-    ∙ proof-same (levelAt 1) n m (a .h .now) (a .x .now) (a .positions .now) (a .v .now) (a .r .now) (a .s .now) (a .alpha .now)))
+    ∙ ap (λ d. concat d (λ k. words (levelAt FIRST) (K (levelAt FIRST) .add (weightedAt (levelAt FIRST) n m d (a .h .now) (a .x .now) (a .positions .now) (a .v .now) (a .alpha .now) k) (mask (K (levelAt FIRST)) (d - 1) (el (levelAt FIRST) (a .r .now)) (el (levelAt FIRST) (a .s .now)) k)))) (c .before .before .before .before .before .before .before .before .before .before .degree .ensures)
+    ∙ proof-same (levelAt FIRST) n m (a .h .now) (a .x .now) (a .positions .now) (a .v .now) (a .r .now) (a .s .now) (a .alpha .now)))
 
 pub weigh-spec : {M : Type 1} → statement M
 weigh-spec =

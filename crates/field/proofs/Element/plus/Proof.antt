@@ -1,62 +1,63 @@
-use mathlib.Core.List.{List, [], _∷_}
-use lib.Bits.{bitXor}
-use Rattle.field.specs.Level.{levelAt, F, K}
-use Rattle.field.specs.Word.{words, word}
-use Rattle.field.specs.Packed.{Holds}
-use Rattle.field.proofs.Packing.{packs-sum}
-use Prim.Native.Nat.{ℕ, zero, suc, _<_}
-use mathlib.Core.Path.{_≡_, refl}
+use mathlib.Core.Path.{_≡_}
 use native.Mathlib.Omega.{arith}
-use lib.ListN.{getD}
+use lib.ListN.{length}
+use Rattle.field.proofs.Elements.{holds-plus}
+use Rattle.field.proofs.Named.{of-first, of-second}
+use Rattle.field.specs.Packed.{Holds}
+use Rattle.field.specs.Level.{levelAt, first, second, K}
 use borrow.Author.Needs.{needs}
 use Rattle.field.proofs.Element.plus.Statement.{statement}
 use Rattle.field.proofs.Element.plus.Tie as tie
 
-array-read-t8 : tie.Need-array-read-t8
-array-read-t8 c = search needs
+slice-aggregate-add : tie.Need-slice-aggregate-add
+slice-aggregate-add c = search needs
 
-array-read-t11 : tie.Need-array-read-t11
-array-read-t11 c = search needs
+slice-aggregate-add-2 : tie.Need-slice-aggregate-add-2
+slice-aggregate-add-2 c = search needs
 
-array-read-t15 : tie.Need-array-read-t15
-array-read-t15 c = search needs
+add-requires : tie.Need-add-requires
+unfolding levelAt
+add-requires c κs = (omega (arith, long), omega (arith, other), omega arith)
+  where
+    long : length (c .before .before .before .before .before .args .self .words) ≡ 6
+    long = search needs
 
-array-read-t18 : tie.Need-array-read-t18
-array-read-t18 c = search needs
-
-array-read-t22 : tie.Need-array-read-t22
-array-read-t22 c = search needs
-
-array-read-t25 : tie.Need-array-read-t25
-array-read-t25 c = search needs
+    other : length (c .before .before .before .before .before .args .other .words) ≡ 6
+    other = search needs
 
 returns : tie.Need-returns
-unfolding Holds levelAt K F words word
-returns c x y hx hy = packs-sum 11 2 12 3 a b r x y (omega arith) each hx hy
+unfolding levelAt
+returns c = of-second (λ l. (x y : K l .Carrier) → Holds l (c .before .before .before .before .before .before .before .args .self .words) x → Holds l (c .before .before .before .before .before .before .before .args .other .words) y → Holds l (c .before .add .last .0) (K l .add x y)) (c .before .before .before .before .if1 .taken) (λ x y. holds-plus second 6 (c .before .before .before .before .before .before .before .args .self .words) (c .before .before .before .before .before .before .before .args .other .words) (c .before .add .last .0) x y (omega arith) (c .before .add .ensures))
+
+slice-aggregate-add-3 : tie.Need-slice-aggregate-add-3
+slice-aggregate-add-3 c = search needs
+
+slice-aggregate-add-4 : tie.Need-slice-aggregate-add-4
+slice-aggregate-add-4 c = search needs
+
+add-requires-2 : tie.Need-add-requires-2
+unfolding levelAt
+add-requires-2 c κs = (omega (arith, long), omega (arith, other), omega arith)
   where
-    a : List ℕ
-    a = c .before .before .args .self .words
+    long : length (c .before .before .before .before .before .args .self .words) ≡ 6
+    long = search needs
 
-    b : List ℕ
-    b = c .before .before .args .other .words
+    other : length (c .before .before .before .before .before .args .other .words) ≡ 6
+    other = search needs
 
-    r : List ℕ
-    r = bitXor (getD a 0 0) (getD b 0 0) ∷ bitXor (getD a 1 0) (getD b 1 0) ∷ bitXor (getD a 2 0) (getD b 2 0) ∷ []
-
-    each : (q : ℕ) → q < 3 → getD r q 0 ≡ bitXor (getD a q 0) (getD b q 0)
-    each zero h = refl
-    each (suc zero) h = refl
-    each (suc (suc zero)) h = refl
-    each (suc (suc (suc q))) h = absurd (omega arith)
+returns-2 : tie.Need-returns-2
+unfolding levelAt
+returns-2 c = of-first (λ l. (x y : K l .Carrier) → Holds l (c .before .before .before .before .before .before .before .args .self .words) x → Holds l (c .before .before .before .before .before .before .before .args .other .words) y → Holds l (c .before .add2 .last .0) (K l .add x y)) (c .before .before .before .before .if1 .left) (λ x y. holds-plus first 3 (c .before .before .before .before .before .before .before .args .self .words) (c .before .before .before .before .before .before .before .args .other .words) (c .before .add2 .last .0) x y (omega arith) (c .before .add2 .ensures))
 
 pub plus-spec : {M : Type 1} → statement M
 plus-spec =
     tie.close
     (tie.spec
-    array-read-t8
-    array-read-t11
-    array-read-t15
-    array-read-t18
-    array-read-t22
-    array-read-t25
-    returns)
+    slice-aggregate-add
+    slice-aggregate-add-2
+    add-requires
+    returns
+    slice-aggregate-add-3
+    slice-aggregate-add-4
+    add-requires-2
+    returns-2)

@@ -1,12 +1,11 @@
-use mathlib.Core.Path.{ap₂}
+use mathlib.Core.Path.{ap₂, _≡_, ap, _∙_}
 use mathlib.Core.List.{[], _∷_}
-use native.Mathlib.Nat.{mod-eq-of-lt}
-use Rattle.field.specs.Packed.{lane}
-use Rattle.field.proofs.Lanes.{lane-small, lane-cons-zero, lane-cons-suc}
 use Prim.Native.Nat.{ℕ, zero, suc, _+_, _*_, _%_, _<_}
-use mathlib.Core.Path.{_≡_, ap, _∙_}
+use native.Mathlib.Nat.{mod-eq-of-lt}
 use native.Mathlib.Omega.{arith}
 use lib.ListN.{getD}
+use Rattle.field.specs.Packed.{lane}
+use Rattle.field.proofs.Lanes.{lane-small, lane-cons-zero, lane-cons-suc}
 use borrow.Author.Needs.{needs}
 use Rattle.field.proofs.packed.four.Statement.{statement}
 use Rattle.field.proofs.packed.four.Tie as tie

@@ -1,37 +1,46 @@
-use mathlib.Core.Path.{subst}
-use lib.Bits.{and-le-r}
-use Rattle.field.specs.Binary.{binary}
-use Rattle.field.specs.Vector.{sum, unit, zeros}
-use Rattle.field.specs.Quotient.{rule, timesX}
-use Rattle.field.specs.Word.{digits}
-use Rattle.field.specs.Packed.{lane}
-use Rattle.field.proofs.Number.{timesX-number}
-use Rattle.field.proofs.Packing.{lane-Z}
-use Prim.Native.Nat.{ℕ, zero, suc, _/_, _^_, _<_}
-use mathlib.Core.Path.{_≡_, refl, sym}
+use mathlib.Core.Path.{subst, sym, ap}
+use Prim.Native.Nat.{_+_, _-_, _*_, _/_, _%_, _^_, _<_}
 use native.Mathlib.Omega.{arith}
+use lib.Bits.{bitXor, bitAnd, and-le-r}
+use Rattle.field.proofs.Rules.{ruleOf, shifted, lanes, lanes-fit, small-64}
+use Rattle.field.proofs.Fields.{bounded}
+use Rattle.field.specs.Packed.{TimesZ}
+use Rattle.field.specs.Level.{levelAt}
+use Rattle.field.specs.declared.Level.{Level}
+use borrow.Author.Needs.{needs}
 use Rattle.field.proofs.packed.times_z.Statement.{statement}
 use Rattle.field.proofs.packed.times_z.Tie as tie
 
-rule-11 : digits 11 5 ≡ rule binary 11 2
-unfolding digits rule sum unit zeros
-rule-11 = refl
+of-requires : tie.Need-of-requires
+of-requires c κs = search needs
 
-ones : (i : ℕ) → i < 4 → lane 281479271743489 i ≡ 1
-unfolding lane
-ones zero h = refl
-ones (suc zero) h = refl
-ones (suc (suc zero)) h = refl
-ones (suc (suc (suc zero))) h = refl
-ones (suc (suc (suc (suc i)))) h = absurd (omega arith)
+shl-rule : tie.Need-shl-rule
+shl-rule c = omega (arith, ap (λ (l : Level). l .width) (c .of .ensures), bounded (c .before .args .level) .short)
+
+shl-rule-2 : tie.Need-shl-rule-2
+shl-rule-2 c = omega (arith, ap (λ (l : Level). l .tap) (c .of .ensures), bounded (c .before .args .level) .short, bounded (c .before .args .level) .tap)
+
+add-rule : tie.Need-add-rule
+add-rule c = record { fits = omega (arith, subst (λ (l : Level). shifted 64 (l .width) + shifted 64 (l .tap) < 8192) (sym (c .of .ensures)) (small-64 (c .before .args .level))) }
+
+add-rule-2 : tie.Need-add-rule-2
+add-rule-2 c = record { fits = omega (arith, subst (λ (l : Level). shifted 64 (l .width) + shifted 64 (l .tap) < 8192) (sym (c .of .ensures)) (small-64 (c .before .args .level))) }
+
+sub-h : tie.Need-sub-h
+sub-h c = omega (arith, ap (λ (l : Level). l .width) (c .before .of .ensures), bounded (c .before .before .args .level) .width)
+
+shr-h : tie.Need-shr-h
+shr-h c = omega (arith, ap (λ (l : Level). l .width) (c .before .of .ensures), bounded (c .before .before .args .level) .short)
 
 mul-result : tie.Need-mul-result
-mul-result c = record { fits = omega (arith, and-le-r (c .args .x / 1024) 281479271743489) }
+mul-result c = record { fits = lanes-fit _ _ (and-le-r (c .before .before .args .x / 2 ^ (c .before .of .result .width - 1)) 281479271743489) (omega (arith, subst (λ (l : Level). shifted 64 (l .width) + shifted 64 (l .tap) < 8192) (sym (c .before .of .ensures)) (small-64 (c .before .before .args .level)))) }
 
 returns : tie.Need-returns
-returns c small j l =
-    let x = c .args .x in
-    subst (λ y. (y < 2 ^ 11) × (digits 11 y ≡ timesX binary 11 2 (digits 11 (lane x j)))) (sym (lane-Z 4 11 5 x 281479271743489 (omega arith) (omega arith) (omega arith) small ones j l)) (timesX-number 11 2 5 (lane x j) (omega arith) rule-11 (omega arith) (small j l))
+returns c =
+    let a = c .before .before .args in
+    subst (λ (l : Level). TimesZ (levelAt (a .level) .width) (levelAt (a .level) .tap) (a .x) (bitXor (a .x * 2 % 2 ^ 64) (bitAnd (a .x / 2 ^ (l .width - 1)) 281479271743489 * ruleOf 64 l))) (sym (c .before .of .ensures)) (lanes (a .level) (a .x))
 
 pub times-z-spec : {M : Type 1} → statement M
-times-z-spec = tie.close (tie.spec mul-result returns)
+times-z-spec =
+    tie.close
+    (tie.spec of-requires shl-rule shl-rule-2 add-rule add-rule-2 sub-h shr-h mul-result returns)

@@ -5,7 +5,7 @@ use native.Mathlib.Nat.{sub-self, mod-lt}
 use native.Mathlib.Omega.{arith}
 use borrow.Author.Needs.{needs}
 use lib.ListN.{length}
-use Rattle.field.specs.Packed.{Tabulates}
+use Rattle.field.specs.Packed.{Multiplies}
 use Rattle.field.specs.Level.{levelAt, K}
 use Rattle.field.specs.declared.Level.{Level}
 use Rattle.row.specs.Elements.{el, Words}
@@ -63,7 +63,7 @@ of-requires : tie.Need-of-requires Inv-loop μ-loop
 of-requires c κs = search needs
 
 -- the table of the digit's offset
-tabulated : (c : tie.After-of Inv-loop μ-loop) → Tabulates (L (c .before .before .before .before .before .before)) (c .of .result .words) (offsets (c .before .before .before .before .before .before) (c .before .before .before .before .before .before .args .d - 1 - (c .before .before .before .loop .t - 1)))
+tabulated : (c : tie.After-of Inv-loop μ-loop) → Multiplies (L (c .before .before .before .before .before .before)) (c .of .result) (offsets (c .before .before .before .before .before .before) (c .before .before .before .before .before .before .args .d - 1 - (c .before .before .before .loop .t - 1)))
 tabulated c = c .of .ensures (offsets (c .before .before .before .before .before .before) (c .before .before .before .before .before .before .args .d - 1 - (c .before .before .before .loop .t - 1))) (c .before .get .ensures)
 
 add-halve : tie.Need-add-halve Inv-loop μ-loop

@@ -4,7 +4,7 @@ use native.Mathlib.Nat.{le-refl}
 use native.Mathlib.Omega.{arith}
 use borrow.Author.Needs.{needs}
 use lib.ListN.{length}
-use Rattle.field.specs.Packed.{Holds, Tabulates}
+use Rattle.field.specs.Packed.{Holds, Multiplies}
 use Rattle.field.specs.Word.{odd}
 use Rattle.field.specs.Level.{levelAt, K}
 use Rattle.field.specs.declared.Level.{Level}
@@ -20,7 +20,7 @@ abbrev Inv-loop : tie.InvT-loop
 Inv-loop buf₀ a b s w multiples level carry₀ e₀ buf carry e =
     (e ≤ s) × (length buf ≡ length buf₀) × Words (levelAt level) buf
     × Holds (levelAt level) (carry .words) (carried (K (levelAt level)) (odd w) (λ i. el (levelAt level) buf₀ (a + i)) (λ i. el (levelAt level) buf₀ (b + i)) e)
-    × ((y : K (levelAt level) .Carrier) → Tabulates (levelAt level) (multiples .words) y → Joined (K (levelAt level)) (el (levelAt level) buf₀) (el (levelAt level) buf) a b s (odd w) y e)
+    × ((y : K (levelAt level) .Carrier) → Multiplies (levelAt level) multiples y → Joined (K (levelAt level)) (el (levelAt level) buf₀) (el (levelAt level) buf) a b s (odd w) y e)
 
 abbrev μ-loop : tie.MeasureT-loop
 μ-loop buf₀ a b s w multiples level carry₀ e₀ buf carry e = s - e
@@ -94,7 +94,7 @@ second c =
 abbrev coefficient : (s : tie.Start Inv-loop μ-loop) → K (L s) .Carrier → ℕ → K (L s) .Carrier
 coefficient s y e = K (L s) .add (K (L s) .mul y (K (L s) .add (P s e) (Q s e))) (carried (K (L s)) (odd (s .args .w)) (P s) (Q s) e)
 
-stored : (c : tie.After-put Inv-loop μ-loop) (y : K (L (c .before .before .before .before .before .before .before .before .before .before .before .before .before)) .Carrier) → Tabulates (L (c .before .before .before .before .before .before .before .before .before .before .before .before .before)) (c .before .before .before .before .before .before .before .before .before .before .before .before .before .args .multiples .words) y
+stored : (c : tie.After-put Inv-loop μ-loop) (y : K (L (c .before .before .before .before .before .before .before .before .before .before .before .before .before)) .Carrier) → Multiplies (L (c .before .before .before .before .before .before .before .before .before .before .before .before .before)) (c .before .before .before .before .before .before .before .before .before .before .before .before .before .args .multiples) y
     → Step (L (c .before .before .before .before .before .before .before .before .before .before .before .before .before)) (c .before .before .before .before .before .before .before .before .before .before .loop .buf) (c .put .last .0) (λ f g. Put f g (c .before .before .before .before .before .before .before .before .before .before .before .before .before .args .a + c .before .before .before .before .before .before .before .before .before .before .loop .e) (coefficient (c .before .before .before .before .before .before .before .before .before .before .before .before .before) y (c .before .before .before .before .before .before .before .before .before .before .loop .e)))
 stored c y t =
     let s = c .before .before .before .before .before .before .before .before .before .before .before .before .before in

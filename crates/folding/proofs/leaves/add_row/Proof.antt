@@ -3,7 +3,7 @@ use Prim.Native.Nat.{ℕ, _+_, _-_, _≤_}
 use native.Mathlib.Omega.{arith}
 use borrow.Author.Needs.{needs}
 use lib.ListN.{length}
-use Rattle.field.specs.Packed.{Tabulates}
+use Rattle.field.specs.Packed.{Multiplies}
 use Rattle.field.specs.Level.{levelAt, K}
 use Rattle.field.specs.declared.Level.{Level}
 use Rattle.row.specs.Elements.{el, Words}
@@ -17,7 +17,7 @@ use Rattle.folding.proofs.leaves.add_row.Tie as tie
 abbrev Inv-loop : tie.InvT-loop
 Inv-loop dst₀ multiples h at n level i₀ dst i =
     (i ≤ n) × (length dst ≡ length dst₀) × Words (levelAt level) dst
-    × ((y : K (levelAt level) .Carrier) → Tabulates (levelAt level) (multiples .words) y → Added (K (levelAt level)) (el (levelAt level) dst₀) (el (levelAt level) dst) (λ r. K (levelAt level) .mul (smallOf (levelAt level) h (at + r)) y) i)
+    × ((y : K (levelAt level) .Carrier) → Multiplies (levelAt level) multiples y → Added (K (levelAt level)) (el (levelAt level) dst₀) (el (levelAt level) dst) (λ r. K (levelAt level) .mul (smallOf (levelAt level) h (at + r)) y) i)
 
 abbrev μ-loop : tie.MeasureT-loop
 μ-loop dst₀ multiples h at n level i₀ dst i = n - i
@@ -52,7 +52,7 @@ add-at-requires c κs =
     (l .inv .2, fits-le (L s) (l .i + 1) (s .args .n) (omega (arith, c .before .before .before .loop-test .taken)) (l .inv .1) (s .pre .4))
 
 -- what add_at stored
-stored : (c : tie.After-add-at Inv-loop μ-loop) (y : K (L (c .before .before .before .before .before .before .before .before)) .Carrier) → Tabulates (L (c .before .before .before .before .before .before .before .before)) (c .before .before .before .before .before .before .before .before .args .multiples .words) y → Step (L (c .before .before .before .before .before .before .before .before)) (c .before .before .before .before .before .loop .dst) (c .add-at .last .0) (λ f g. Put f g (c .before .before .before .before .before .loop .i) (K (L (c .before .before .before .before .before .before .before .before)) .add (f (c .before .before .before .before .before .loop .i)) (terms (c .before .before .before .before .before .before .before .before) y (c .before .before .before .before .before .loop .i))))
+stored : (c : tie.After-add-at Inv-loop μ-loop) (y : K (L (c .before .before .before .before .before .before .before .before)) .Carrier) → Multiplies (L (c .before .before .before .before .before .before .before .before)) (c .before .before .before .before .before .before .before .before .args .multiples) y → Step (L (c .before .before .before .before .before .before .before .before)) (c .before .before .before .before .before .loop .dst) (c .add-at .last .0) (λ f g. Put f g (c .before .before .before .before .before .loop .i) (K (L (c .before .before .before .before .before .before .before .before)) .add (f (c .before .before .before .before .before .loop .i)) (terms (c .before .before .before .before .before .before .before .before) y (c .before .before .before .before .before .loop .i))))
 stored c y t =
     let s = c .before .before .before .before .before .before .before .before in
     let i = c .before .before .before .before .before .loop .i in

@@ -4,7 +4,7 @@ use native.Mathlib.Decide.{decLt}
 use native.Mathlib.Nat.{mul-zero, one-mul, mul-le-mul-right}
 use native.Mathlib.Omega.{arith}
 use lib.ListN.{length}
-use Rattle.field.specs.Packed.{Tabulates}
+use Rattle.field.specs.Packed.{Multiplies}
 use Rattle.field.specs.Level.{levelAt, K}
 use Rattle.field.specs.declared.Level.{Level}
 use Rattle.row.specs.Elements.{el, Words, valueOf, Held}
@@ -21,7 +21,7 @@ use Rattle.folding.proofs.leaves.leaves.Tie as tie
 abbrev Inv-loop : tie.InvT-loop
 Inv-loop dst₀ stride first count alpha x multiples n level at₀ j₀ dst at j =
     (j ≤ count) × (at ≡ stride * j) × (length dst ≡ length dst₀) × Words (levelAt level) dst
-    × ((y : K (levelAt level) .Carrier) → Tabulates (levelAt level) (multiples .words) y → Leaves (K (levelAt level)) (el (levelAt level) dst) stride first j n (el (levelAt level) alpha) (smallOf (levelAt level) x) y)
+    × ((y : K (levelAt level) .Carrier) → Multiplies (levelAt level) multiples y → Leaves (K (levelAt level)) (el (levelAt level) dst) stride first j n (el (levelAt level) alpha) (smallOf (levelAt level) x) y)
 
 abbrev μ-loop : tie.MeasureT-loop
 μ-loop dst₀ stride first count alpha x multiples n level at₀ j₀ dst at j = count - j

@@ -4,7 +4,7 @@ use native.Mathlib.Nat.{mul-zero}
 use native.Mathlib.Omega.{arith}
 use borrow.Author.Needs.{needs}
 use lib.ListN.{length}
-use Rattle.field.specs.Packed.{Tabulates}
+use Rattle.field.specs.Packed.{Multiplies}
 use Rattle.field.specs.Level.{levelAt, K}
 use Rattle.field.specs.declared.Level.{Level}
 use Rattle.row.specs.Elements.{el, Words}
@@ -69,7 +69,7 @@ of-requires : tie.Need-of-requires Inv-loop μ-loop
 of-requires c κs = search needs
 
 -- the table of the row's weight
-table : (c : tie.After-of Inv-loop μ-loop) → Tabulates (L (c .before .before .before .before .before .before .before .before .before .before .before .before)) (c .of .result .words) (weights (c .before .before .before .before .before .before .before .before .before .before .before .before) (c .before .before .before .before .before .before .before .before .before .before .before .before .args .n + c .before .before .before .before .loop .e))
+table : (c : tie.After-of Inv-loop μ-loop) → Multiplies (L (c .before .before .before .before .before .before .before .before .before .before .before .before)) (c .of .result) (weights (c .before .before .before .before .before .before .before .before .before .before .before .before) (c .before .before .before .before .before .before .before .before .before .before .before .before .args .n + c .before .before .before .before .loop .e))
 table c = c .of .ensures (weights (c .before .before .before .before .before .before .before .before .before .before .before .before) (c .before .before .before .before .before .before .before .before .before .before .before .before .args .n + c .before .before .before .before .loop .e)) (c .before .before .get .ensures)
 
 add-row-requires : tie.Need-add-row-requires Inv-loop μ-loop

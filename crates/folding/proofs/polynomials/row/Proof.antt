@@ -4,7 +4,7 @@ use native.Mathlib.Omega.{arith}
 use borrow.Author.Needs.{needs}
 use lib.ListN.{length}
 use Rattle.field.specs.Level.{levelAt, K}
-use Rattle.field.specs.Packed.{Tabulates}
+use Rattle.field.specs.Packed.{Multiplies}
 use Rattle.field.specs.declared.Level.{Level}
 use Rattle.row.specs.Elements.{el, Fits, valueOf}
 use Rattle.row.specs.Lent.{smallOf}
@@ -42,7 +42,7 @@ power-requires c κs = c .before .before .before .before .before .before .pre .1
 of-requires : tie.Need-of-requires
 of-requires c κs = search needs
 
-tabulated : (c : tie.After-of) → Tabulates (L (c .before .before .before .before .before .before .before .before)) (c .of .result .words) (multiplier (c .before .before .before .before .before .before .before .before))
+tabulated : (c : tie.After-of) → Multiplies (L (c .before .before .before .before .before .before .before .before)) (c .of .result) (multiplier (c .before .before .before .before .before .before .before .before))
 tabulated c = c .of .ensures (multiplier (c .before .before .before .before .before .before .before .before)) (c .before .before .before .before .before .before .before .before .pre .0 .4)
 
 leaves-requires : tie.Need-leaves-requires

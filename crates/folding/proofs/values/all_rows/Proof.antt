@@ -4,7 +4,7 @@ use native.Mathlib.Nat.{mul-zero}
 use native.Mathlib.Omega.{arith}
 use borrow.Author.Needs.{needs}
 use lib.ListN.{length, getD}
-use Rattle.field.specs.Packed.{Holds, Tabulates}
+use Rattle.field.specs.Packed.{Holds, Multiplies}
 use Rattle.field.specs.Word.{odd}
 use Rattle.field.specs.Level.{levelAt, K}
 use Rattle.field.specs.declared.Level.{Level}
@@ -21,7 +21,7 @@ use Rattle.folding.proofs.values.all_rows.Tie as tie
 abbrev Inv-loop : tie.InvT-loop
 Inv-loop n d x bits numbers delta alpha scaled beta work₀ second₀ level all₀ at₀ i₀ work second all at i =
     (i ≤ n) × (at ≡ d * i) × (length work ≡ length work₀) × (length second ≡ length second₀) × Words (levelAt level) work × Words (levelAt level) second
-    × ((Δ : K (levelAt level) .Carrier) → Tabulates (levelAt level) (delta .words) Δ → Holds (levelAt level) (all .words) (sum (K (levelAt level)) i (λ r. sum (K (levelAt level)) n (λ j. K (levelAt level) .mul (leaf (K (levelAt level)) (el (levelAt level) alpha) (smallOf (levelAt level) x) (el (levelAt level) beta r) j) (value (K (levelAt level)) d (bitOf d bits r) (elementOf (levelAt level) d numbers r) Δ j)))))
+    × ((Δ : K (levelAt level) .Carrier) → Multiplies (levelAt level) delta Δ → Holds (levelAt level) (all .words) (sum (K (levelAt level)) i (λ r. sum (K (levelAt level)) n (λ j. K (levelAt level) .mul (leaf (K (levelAt level)) (el (levelAt level) alpha) (smallOf (levelAt level) x) (el (levelAt level) beta r) j) (value (K (levelAt level)) d (bitOf d bits r) (elementOf (levelAt level) d numbers r) Δ j)))))
 
 abbrev μ-loop : tie.MeasureT-loop
 μ-loop n d x bits numbers delta alpha scaled beta work₀ second₀ level all₀ at₀ i₀ work second all at i = n - i

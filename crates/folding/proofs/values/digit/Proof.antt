@@ -3,7 +3,7 @@ use Prim.Native.Nat.{ℕ, _+_, _-_, _≤_}
 use native.Mathlib.Omega.{arith}
 use borrow.Author.Needs.{needs}
 use lib.ListN.{length}
-use Rattle.field.specs.Packed.{Tabulates}
+use Rattle.field.specs.Packed.{Multiplies}
 use Rattle.field.specs.Level.{levelAt, K}
 use Rattle.field.specs.declared.Level.{Level}
 use Rattle.row.specs.Elements.{el, Words}
@@ -17,7 +17,7 @@ use Rattle.folding.proofs.values.digit.Tie as tie
 abbrev Inv-loop : tie.InvT-loop
 Inv-loop work₀ h place multiples delta level p₀ work p =
     (p ≤ h) × (length work ≡ length work₀) × Words (levelAt level) work
-    × ((y Δ : K (levelAt level) .Carrier) → Tabulates (levelAt level) (multiples .words) y → Tabulates (levelAt level) (delta .words) Δ → Folded (K (levelAt level)) (el (levelAt level) work₀) (el (levelAt level) work) h y (λ r. K (levelAt level) .mul Δ (el (levelAt level) work₀ (r + place))) p)
+    × ((y Δ : K (levelAt level) .Carrier) → Multiplies (levelAt level) multiples y → Multiplies (levelAt level) delta Δ → Folded (K (levelAt level)) (el (levelAt level) work₀) (el (levelAt level) work) h y (λ r. K (levelAt level) .mul Δ (el (levelAt level) work₀ (r + place))) p)
 
 abbrev μ-loop : tie.MeasureT-loop
 μ-loop work₀ h place multiples delta level p₀ work p = h - p
@@ -52,7 +52,7 @@ fold-requires c κs =
     (l .inv .2, fits-le (L s) (l .p + s .args .h + 1) (s .args .h + s .args .h) (omega (arith, c .before .before .before .before .loop-test .taken)) (l .inv .1) (s .pre .4))
 
 -- what fold stored
-stored : (c : tie.After-fold Inv-loop μ-loop) (y Δ : K (L (c .before .before .before .before .before .before .before .before)) .Carrier) → Tabulates (L (c .before .before .before .before .before .before .before .before)) (c .before .before .before .before .before .before .before .before .args .multiples .words) y → Tabulates (L (c .before .before .before .before .before .before .before .before)) (c .before .before .before .before .before .before .before .before .args .delta .words) Δ
+stored : (c : tie.After-fold Inv-loop μ-loop) (y Δ : K (L (c .before .before .before .before .before .before .before .before)) .Carrier) → Multiplies (L (c .before .before .before .before .before .before .before .before)) (c .before .before .before .before .before .before .before .before .args .multiples) y → Multiplies (L (c .before .before .before .before .before .before .before .before)) (c .before .before .before .before .before .before .before .before .args .delta) Δ
     → Step (L (c .before .before .before .before .before .before .before .before)) (c .before .before .before .before .before .before .loop .work) (c .fold .last .0) (λ f g. Put f g (c .before .before .before .before .before .before .loop .p) (K (L (c .before .before .before .before .before .before .before .before)) .add (K (L (c .before .before .before .before .before .before .before .before)) .mul y (K (L (c .before .before .before .before .before .before .before .before)) .add (f (c .before .before .before .before .before .before .loop .p)) (f (c .before .before .before .before .before .before .loop .p + c .before .before .before .before .before .before .before .before .args .h)))) (K (L (c .before .before .before .before .before .before .before .before)) .mul Δ (el (L (c .before .before .before .before .before .before .before .before)) (c .before .before .before .before .before .before .loop .work) (c .before .before .before .before .before .before .loop .p + c .before .before .before .before .before .before .before .before .args .place)))))
 stored c y Δ t u =
     let s = c .before .before .before .before .before .before .before .before in

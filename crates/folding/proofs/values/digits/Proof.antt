@@ -4,7 +4,7 @@ use Prim.Native.Nat.{ℕ, _+_, _-_, _*_, _/_, _^_, _≤_}
 use native.Mathlib.Omega.{arith}
 use borrow.Author.Needs.{needs}
 use lib.ListN.{length, getD}
-use Rattle.field.specs.Packed.{Holds, Tabulates}
+use Rattle.field.specs.Packed.{Holds, Multiplies}
 use Rattle.field.specs.Word.{odd}
 use Rattle.field.specs.Level.{levelAt, K}
 use Rattle.field.specs.declared.Level.{Level}
@@ -20,7 +20,7 @@ use Rattle.folding.proofs.values.digits.Tie as tie
 abbrev Inv-loop : tie.InvT-loop
 Inv-loop work₀ half bits numbers at d delta level h₀ k₀ work h k =
     (1 ≤ k) × (k ≤ d) × (h ≡ 2 ^ (d - k)) × (length work ≡ length work₀) × Words (levelAt level) work
-    × ((Δ : K (levelAt level) .Carrier) → Tabulates (levelAt level) (delta .words) Δ → rowTotal (K (levelAt level)) d (λ e. odd (getD bits (at + e) 0)) (λ e. el (levelAt level) numbers (at + e)) Δ (el (levelAt level) work₀) (d - 1) ≡ rowTotal (K (levelAt level)) d (λ e. odd (getD bits (at + e) 0)) (λ e. el (levelAt level) numbers (at + e)) Δ (el (levelAt level) work) (d - k))
+    × ((Δ : K (levelAt level) .Carrier) → Multiplies (levelAt level) delta Δ → rowTotal (K (levelAt level)) d (λ e. odd (getD bits (at + e) 0)) (λ e. el (levelAt level) numbers (at + e)) Δ (el (levelAt level) work₀) (d - 1) ≡ rowTotal (K (levelAt level)) d (λ e. odd (getD bits (at + e) 0)) (λ e. el (levelAt level) numbers (at + e)) Δ (el (levelAt level) work) (d - k))
 
 abbrev μ-loop : tie.MeasureT-loop
 μ-loop work₀ half bits numbers at d delta level h₀ k₀ work h k = d - k
@@ -82,7 +82,7 @@ of-requires : tie.Need-of-requires Inv-loop μ-loop
 of-requires c κs = search needs
 
 -- the table of the digit's number
-table : (c : tie.After-of Inv-loop μ-loop) → Tabulates (L (c .before .before .before .before .before .before .before .before .before)) (c .of .result .words) (numbers (c .before .before .before .before .before .before .before .before .before) (c .before .before .before .before .before .loop .k))
+table : (c : tie.After-of Inv-loop μ-loop) → Multiplies (L (c .before .before .before .before .before .before .before .before .before)) (c .of .result) (numbers (c .before .before .before .before .before .before .before .before .before) (c .before .before .before .before .before .loop .k))
 table c = c .of .ensures (numbers (c .before .before .before .before .before .before .before .before .before) (c .before .before .before .before .before .loop .k)) (c .before .before .get .ensures)
 
 digit-requires : tie.Need-digit-requires Inv-loop μ-loop
@@ -103,7 +103,7 @@ loop-less : tie.Need-loop-less Inv-loop μ-loop
 loop-less c = omega (arith, c .before .before .before .before .before .before .before .loop-test .taken)
 
 -- what digit did
-folded : (c : tie.After-digit Inv-loop μ-loop) (Δ : K (L (c .before .before .before .before .before .before .before .before .before .before)) .Carrier) → Tabulates (L (c .before .before .before .before .before .before .before .before .before .before)) (c .before .before .before .before .before .before .before .before .before .before .args .delta .words) Δ
+folded : (c : tie.After-digit Inv-loop μ-loop) (Δ : K (L (c .before .before .before .before .before .before .before .before .before .before)) .Carrier) → Multiplies (L (c .before .before .before .before .before .before .before .before .before .before)) (c .before .before .before .before .before .before .before .before .before .before .args .delta) Δ
     → Step (L (c .before .before .before .before .before .before .before .before .before .before)) (c .before .before .before .before .before .before .loop .work) (c .digit .last .0) (λ f g. Folded (K (L (c .before .before .before .before .before .before .before .before .before .before))) f g (2 ^ (c .before .before .before .before .before .before .before .before .before .before .args .d - 1 - c .before .before .before .before .before .before .loop .k)) (numbers (c .before .before .before .before .before .before .before .before .before .before) (c .before .before .before .before .before .before .loop .k)) (λ p. K (L (c .before .before .before .before .before .before .before .before .before .before)) .mul Δ (f (p + word (c .before .before .before .before .before .before .before .before .before .before) (c .before .before .before .before .before .before .loop .k) * 2 ^ (c .before .before .before .before .before .before .before .before .before .before .args .d - 1 - c .before .before .before .before .before .before .loop .k)))) (2 ^ (c .before .before .before .before .before .before .before .before .before .before .args .d - 1 - c .before .before .before .before .before .before .loop .k)))
 folded c Δ t =
     let s = c .before .before .before .before .before .before .before .before .before .before in

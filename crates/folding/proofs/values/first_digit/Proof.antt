@@ -2,7 +2,7 @@ use mathlib.Core.Path.{subst, _≡_, refl, _∙_}
 use Prim.Native.Nat.{ℕ, _+_, _-_, _≤_}
 use native.Mathlib.Omega.{arith}
 use lib.ListN.{length}
-use Rattle.field.specs.Packed.{Tabulates}
+use Rattle.field.specs.Packed.{Multiplies}
 use Rattle.field.specs.Level.{levelAt, K}
 use Rattle.field.specs.declared.Level.{Level}
 use Rattle.row.specs.Elements.{el, Words}
@@ -15,7 +15,7 @@ use Rattle.folding.proofs.values.first_digit.Tie as tie
 abbrev Inv-loop : tie.InvT-loop
 Inv-loop work₀ second h multiples level p₀ work p =
     (p ≤ h) × (length work ≡ length work₀) × Words (levelAt level) work
-    × ((y : K (levelAt level) .Carrier) → Tabulates (levelAt level) (multiples .words) y → Folded (K (levelAt level)) (el (levelAt level) work₀) (el (levelAt level) work) h y (el (levelAt level) second) p)
+    × ((y : K (levelAt level) .Carrier) → Multiplies (levelAt level) multiples y → Folded (K (levelAt level)) (el (levelAt level) work₀) (el (levelAt level) work) h y (el (levelAt level) second) p)
 
 abbrev μ-loop : tie.MeasureT-loop
 μ-loop work₀ second h multiples level p₀ work p = h - p

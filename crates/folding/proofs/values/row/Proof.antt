@@ -5,7 +5,7 @@ use native.Mathlib.Nat.{add-zero, one-mul}
 use native.Mathlib.Omega.{arith}
 use borrow.Author.Needs.{needs}
 use lib.ListN.{getD}
-use Rattle.field.specs.Packed.{Holds, Tabulates}
+use Rattle.field.specs.Packed.{Holds, Multiplies}
 use Rattle.field.specs.Word.{odd}
 use Rattle.field.specs.Level.{levelAt, K}
 use Rattle.field.specs.declared.Level.{Level}
@@ -92,7 +92,7 @@ of-requires-2 : tie.Need-of-requires-2
 of-requires-2 c κs = search needs
 
 -- the table of Δ times the row's weight
-product : (c : tie.After-of2) (Δ : K (L (c .before .before .before .before .before .before .before .before .before .before .before .before .before .before .before .before)) .Carrier) → Tabulates (L (c .before .before .before .before .before .before .before .before .before .before .before .before .before .before .before .before)) (c .before .before .before .before .before .before .before .before .before .before .before .before .before .before .before .before .args .delta .words) Δ → Tabulates (L (c .before .before .before .before .before .before .before .before .before .before .before .before .before .before .before .before)) (c .of2 .result .words) (K (L (c .before .before .before .before .before .before .before .before .before .before .before .before .before .before .before .before)) .mul Δ (β (c .before .before .before .before .before .before .before .before .before .before .before .before .before .before .before .before)))
+product : (c : tie.After-of2) (Δ : K (L (c .before .before .before .before .before .before .before .before .before .before .before .before .before .before .before .before)) .Carrier) → Multiplies (L (c .before .before .before .before .before .before .before .before .before .before .before .before .before .before .before .before)) (c .before .before .before .before .before .before .before .before .before .before .before .before .before .before .before .before .args .delta) Δ → Multiplies (L (c .before .before .before .before .before .before .before .before .before .before .before .before .before .before .before .before)) (c .of2 .result) (K (L (c .before .before .before .before .before .before .before .before .before .before .before .before .before .before .before .before)) .mul Δ (β (c .before .before .before .before .before .before .before .before .before .before .before .before .before .before .before .before)))
 product c Δ t = c .of2 .ensures (K (L (c .before .before .before .before .before .before .before .before .before .before .before .before .before .before .before .before)) .mul Δ (β (c .before .before .before .before .before .before .before .before .before .before .before .before .before .before .before .before))) (c .before .times .ensures Δ (β (c .before .before .before .before .before .before .before .before .before .before .before .before .before .before .before .before)) t (c .before .before .before .before .before .before .before .before .before .before .before .before .before .before .before .before .pre .0 .7))
 
 leaves-requires-2 : tie.Need-leaves-requires-2
@@ -112,7 +112,7 @@ leaves-requires-2 c κs =
     )
 
 -- those that the digit names, each times Δ
-second : (c : tie.After-leaves2) (Δ : K (L (c .before .before .before .before .before .before .before .before .before .before .before .before .before .before .before .before .before .before)) .Carrier) → Tabulates (L (c .before .before .before .before .before .before .before .before .before .before .before .before .before .before .before .before .before .before)) (c .before .before .before .before .before .before .before .before .before .before .before .before .before .before .before .before .before .before .args .delta .words) Δ → Step (L (c .before .before .before .before .before .before .before .before .before .before .before .before .before .before .before .before .before .before)) (c .before .before .before .before .before .before .before .before .before .before .before .before .before .before .before .before .before .before .args .second .now) (c .leaves2 .last .0) (λ f g. Leaves (K (L (c .before .before .before .before .before .before .before .before .before .before .before .before .before .before .before .before .before .before))) g 1 (bit (c .before .before .before .before .before .before .before .before .before .before .before .before .before .before .before .before .before .before) * c .before .before .before .before .before .before .before .before .before .before .power .result) (c .before .before .before .before .before .before .before .before .before .before .power .result) (c .before .before .before .before .before .before .before .before .before .before .before .before .before .before .before .before .before .before .args .n) (el (L (c .before .before .before .before .before .before .before .before .before .before .before .before .before .before .before .before .before .before)) (c .before .before .before .before .before .before .before .before .before .before .before .before .before .before .before .before .before .before .args .scaled .now)) (smallOf (L (c .before .before .before .before .before .before .before .before .before .before .before .before .before .before .before .before .before .before)) (c .before .before .before .before .before .before .before .before .before .before .before .before .before .before .before .before .before .before .args .x .now)) (K (L (c .before .before .before .before .before .before .before .before .before .before .before .before .before .before .before .before .before .before)) .mul Δ (β (c .before .before .before .before .before .before .before .before .before .before .before .before .before .before .before .before .before .before))))
+second : (c : tie.After-leaves2) (Δ : K (L (c .before .before .before .before .before .before .before .before .before .before .before .before .before .before .before .before .before .before)) .Carrier) → Multiplies (L (c .before .before .before .before .before .before .before .before .before .before .before .before .before .before .before .before .before .before)) (c .before .before .before .before .before .before .before .before .before .before .before .before .before .before .before .before .before .before .args .delta) Δ → Step (L (c .before .before .before .before .before .before .before .before .before .before .before .before .before .before .before .before .before .before)) (c .before .before .before .before .before .before .before .before .before .before .before .before .before .before .before .before .before .before .args .second .now) (c .leaves2 .last .0) (λ f g. Leaves (K (L (c .before .before .before .before .before .before .before .before .before .before .before .before .before .before .before .before .before .before))) g 1 (bit (c .before .before .before .before .before .before .before .before .before .before .before .before .before .before .before .before .before .before) * c .before .before .before .before .before .before .before .before .before .before .power .result) (c .before .before .before .before .before .before .before .before .before .before .power .result) (c .before .before .before .before .before .before .before .before .before .before .before .before .before .before .before .before .before .before .args .n) (el (L (c .before .before .before .before .before .before .before .before .before .before .before .before .before .before .before .before .before .before)) (c .before .before .before .before .before .before .before .before .before .before .before .before .before .before .before .before .before .before .args .scaled .now)) (smallOf (L (c .before .before .before .before .before .before .before .before .before .before .before .before .before .before .before .before .before .before)) (c .before .before .before .before .before .before .before .before .before .before .before .before .before .before .before .before .before .before .args .x .now)) (K (L (c .before .before .before .before .before .before .before .before .before .before .before .before .before .before .before .before .before .before)) .mul Δ (β (c .before .before .before .before .before .before .before .before .before .before .before .before .before .before .before .before .before .before))))
 second c Δ t = c .leaves2 .ensures (K (L (c .before .before .before .before .before .before .before .before .before .before .before .before .before .before .before .before .before .before)) .mul Δ (β (c .before .before .before .before .before .before .before .before .before .before .before .before .before .before .before .before .before .before))) (product (c .before .before) Δ t)
 
 get-requires : tie.Need-get-requires
@@ -123,7 +123,7 @@ get-requires c κs =
 of-requires-3 : tie.Need-of-requires-3
 of-requires-3 c κs = search needs
 
-table : (c : tie.After-of3) → Tabulates (L (c .before .before .before .before .before .before .before .before .before .before .before .before .before .before .before .before .before .before .before .before .before .before)) (c .of3 .result .words) (number (c .before .before .before .before .before .before .before .before .before .before .before .before .before .before .before .before .before .before .before .before .before .before))
+table : (c : tie.After-of3) → Multiplies (L (c .before .before .before .before .before .before .before .before .before .before .before .before .before .before .before .before .before .before .before .before .before .before)) (c .of3 .result) (number (c .before .before .before .before .before .before .before .before .before .before .before .before .before .before .before .before .before .before .before .before .before .before))
 table c = c .of3 .ensures (number (c .before .before .before .before .before .before .before .before .before .before .before .before .before .before .before .before .before .before .before .before .before .before)) (c .before .get .ensures)
 
 first-digit-requires : tie.Need-first-digit-requires

@@ -4,7 +4,7 @@ use native.Mathlib.Omega.{arith}
 use borrow.Author.Count.{below-more}
 use borrow.Author.Needs.{needs}
 use lib.ListN.{length}
-use Rattle.field.specs.Packed.{Tabulates}
+use Rattle.field.specs.Packed.{Multiplies}
 use Rattle.field.specs.Level.{levelAt, K}
 use Rattle.field.specs.declared.Level.{Level}
 use Rattle.row.specs.Elements.{el, Words}
@@ -16,7 +16,7 @@ use Rattle.folding.proofs.values.scale.Tie as tie
 abbrev Inv-loop : tie.InvT-loop
 Inv-loop dst₀ multiples src n level j₀ dst j =
     (j ≤ n) × (length dst ≡ length dst₀) × Words (levelAt level) dst
-    × ((y : K (levelAt level) .Carrier) → Tabulates (levelAt level) (multiples .words) y → (i : ℕ) → i < j → el (levelAt level) dst i ≡ K (levelAt level) .mul y (el (levelAt level) src i))
+    × ((y : K (levelAt level) .Carrier) → Multiplies (levelAt level) multiples y → (i : ℕ) → i < j → el (levelAt level) dst i ≡ K (levelAt level) .mul y (el (levelAt level) src i))
 
 abbrev μ-loop : tie.MeasureT-loop
 μ-loop dst₀ multiples src n level j₀ dst j = n - j
@@ -45,7 +45,7 @@ put-requires c κs =
     (l .inv .2, fits-le (L s) (l .j + 1) (s .args .n) (omega (arith, c .before .before .before .loop-test .taken)) (l .inv .1) (s .pre .3))
 
 -- what put stored
-stored : (c : tie.After-put Inv-loop μ-loop) (y : K (L (c .before .before .before .before .before .before .before .before)) .Carrier) → Tabulates (L (c .before .before .before .before .before .before .before .before)) (c .before .before .before .before .before .before .before .before .args .multiples .words) y → Step (L (c .before .before .before .before .before .before .before .before)) (c .before .before .before .before .before .loop .dst) (c .put .last .0) (λ f g. Put f g (c .before .before .before .before .before .loop .j) (products (c .before .before .before .before .before .before .before .before) y (c .before .before .before .before .before .loop .j)))
+stored : (c : tie.After-put Inv-loop μ-loop) (y : K (L (c .before .before .before .before .before .before .before .before)) .Carrier) → Multiplies (L (c .before .before .before .before .before .before .before .before)) (c .before .before .before .before .before .before .before .before .args .multiples) y → Step (L (c .before .before .before .before .before .before .before .before)) (c .before .before .before .before .before .loop .dst) (c .put .last .0) (λ f g. Put f g (c .before .before .before .before .before .loop .j) (products (c .before .before .before .before .before .before .before .before) y (c .before .before .before .before .before .loop .j)))
 stored c y t =
     let s = c .before .before .before .before .before .before .before .before in
     let j = c .before .before .before .before .before .loop .j in

@@ -4,7 +4,7 @@ use native.Mathlib.Nat.{mul-one}
 use native.Mathlib.Omega.{arith}
 use borrow.Author.Needs.{needs}
 use lib.ListN.{length}
-use Rattle.field.specs.Packed.{Holds, Tabulates}
+use Rattle.field.specs.Packed.{Holds, Multiplies}
 use Rattle.field.specs.Level.{levelAt, K}
 use Rattle.field.specs.declared.Level.{Level}
 use Rattle.row.specs.Elements.{el, Fits}
@@ -43,7 +43,7 @@ get-requires c κs =
 of-requires : tie.Need-of-requires
 of-requires c κs = search needs
 
-table : (c : tie.After-of) → Tabulates (L (c .before .before .before .before .before .before .before .before .before .before .before .before .before .before .before .before .before .before .before .before .before .before .before .before)) (c .of .result .words) (Δ (c .before .before .before .before .before .before .before .before .before .before .before .before .before .before .before .before .before .before .before .before .before .before .before .before))
+table : (c : tie.After-of) → Multiplies (L (c .before .before .before .before .before .before .before .before .before .before .before .before .before .before .before .before .before .before .before .before .before .before .before .before)) (c .of .result) (Δ (c .before .before .before .before .before .before .before .before .before .before .before .before .before .before .before .before .before .before .before .before .before .before .before .before))
 table c = c .of .ensures (Δ (c .before .before .before .before .before .before .before .before .before .before .before .before .before .before .before .before .before .before .before .before .before .before .before .before)) (c .before .get .ensures)
 
 multipliers-requires : tie.Need-multipliers-requires

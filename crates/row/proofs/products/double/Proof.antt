@@ -3,7 +3,7 @@ use Prim.Native.Nat.{_+_, _-_, _*_, _≤_}
 use native.Mathlib.Nat.{mul-zero, mul-add}
 use native.Mathlib.Omega.{arith}
 use lib.ListN.{length}
-use Rattle.field.specs.Packed.{Tabulates}
+use Rattle.field.specs.Packed.{Multiplies}
 use Rattle.field.specs.Word.{odd}
 use Rattle.field.specs.Level.{levelAt, K}
 use Rattle.field.specs.declared.Level.{Level}
@@ -18,7 +18,7 @@ use Rattle.row.proofs.products.double.Tie as tie
 abbrev Inv-loop : tie.InvT-loop
 Inv-loop buf₀ n h s w multiples level half a₀ p₀ buf a p =
     (p ≤ h) × (a ≡ n * p) × (length buf ≡ length buf₀) × Words (levelAt level) buf
-    × ((y : K (levelAt level) .Carrier) → Tabulates (levelAt level) (multiples .words) y → Doubled (K (levelAt level)) (el (levelAt level) buf₀) (el (levelAt level) buf) n h s (odd w) y p)
+    × ((y : K (levelAt level) .Carrier) → Multiplies (levelAt level) multiples y → Doubled (K (levelAt level)) (el (levelAt level) buf₀) (el (levelAt level) buf) n h s (odd w) y p)
 
 abbrev μ-loop : tie.MeasureT-loop
 μ-loop buf₀ n h s w multiples level half a₀ p₀ buf a p = h - p

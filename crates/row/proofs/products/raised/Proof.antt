@@ -2,7 +2,7 @@ use mathlib.Core.Path.{subst, _≡_, sym}
 use Prim.Native.Nat.{_-_, _≤_}
 use native.Mathlib.Omega.{arith}
 use borrow.Author.Needs.{needs}
-use Rattle.field.specs.Packed.{Holds, Tabulates}
+use Rattle.field.specs.Packed.{Holds, Multiplies}
 use Rattle.field.specs.Level.{levelAt, K}
 use Rattle.row.specs.Polynomial.{raise}
 use Rattle.row.specs.Elements.{valueOf}
@@ -11,7 +11,7 @@ use Rattle.row.proofs.products.raised.Statement.{statement}
 use Rattle.row.proofs.products.raised.Tie as tie
 
 abbrev Inv-loop : tie.InvT-loop
-Inv-loop d level multiples power₀ i₀ power i = (i ≤ d) × ((y : K (levelAt level) .Carrier) → Tabulates (levelAt level) (multiples .words) y → Holds (levelAt level) (power .words) (raise (K (levelAt level)) y i))
+Inv-loop d level multiples power₀ i₀ power i = (i ≤ d) × ((y : K (levelAt level) .Carrier) → Multiplies (levelAt level) multiples y → Holds (levelAt level) (power .words) (raise (K (levelAt level)) y i))
 
 abbrev μ-loop : tie.MeasureT-loop
 μ-loop d level multiples power₀ i₀ power i = d - i

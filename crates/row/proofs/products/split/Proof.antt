@@ -7,10 +7,11 @@ use native.Mathlib.Omega.{arith}
 use borrow.Author.Needs.{needs}
 use lib.ListN.{length}
 use Rattle.field.specs.Binary.{bit}
-use Rattle.field.specs.Packed.{Holds, Tabulates}
+use Rattle.field.specs.Packed.{Holds, Multiplies}
 use Rattle.field.specs.Word.{odd}
 use Rattle.field.specs.Level.{levelAt, K}
 use Rattle.field.specs.declared.Level.{Level}
+use Rattle.field.specs.declared.Multiples.{Multiples}
 use Rattle.row.specs.Step.{Step, PutTwo, Factored}
 use Rattle.row.specs.Polynomial.{up}
 use Rattle.row.specs.Elements.{el, Words, Fits}
@@ -22,7 +23,7 @@ use Rattle.row.proofs.products.split.Tie as tie
 abbrev Inv-loop : tie.InvT-loop
 Inv-loop buf₀ a b s w multiples level carry₀ e₀ buf carry e =
     (e ≤ s) × (length buf ≡ length buf₀) × Words (levelAt level) buf × Holds (levelAt level) (carry .words) (up (K (levelAt level)) (λ i. el (levelAt level) buf₀ (a + i)) e)
-    × ((y : K (levelAt level) .Carrier) → Tabulates (levelAt level) (multiples .words) y → Factored (K (levelAt level)) (el (levelAt level) buf₀) (el (levelAt level) buf) a b s (odd w) y e)
+    × ((y : K (levelAt level) .Carrier) → Multiplies (levelAt level) multiples y → Factored (K (levelAt level)) (el (levelAt level) buf₀) (el (levelAt level) buf) a b s (odd w) y e)
 
 abbrev μ-loop : tie.MeasureT-loop
 μ-loop buf₀ a b s w multiples level carry₀ e₀ buf carry e = s - e
@@ -34,8 +35,8 @@ L s = levelAt (s .args .level)
 abbrev P : (s : tie.Start Inv-loop μ-loop) → ℕ → K (L s) .Carrier
 P s i = el (L s) (s .args .buf .now) (s .args .a + i)
 
-abbrev table : tie.Start Inv-loop μ-loop → List ℕ
-table s = s .args .multiples .words
+abbrev table : tie.Start Inv-loop μ-loop → Multiples
+table s = s .args .multiples
 
 abbrev factor : (s : tie.Start Inv-loop μ-loop) → K (L s) .Carrier
 factor s = s .pre .1 .factor
@@ -82,7 +83,7 @@ old c =
 read : (c : tie.After-get Inv-loop μ-loop) → Holds (L (c .before .before .before .before .before .before)) (c .get .result .words) (P (c .before .before .before .before .before .before) (c .before .before .before .loop .e))
 read c = subst (Holds (L (c .before .before .before .before .before .before)) (c .get .result .words)) (old c) (c .get .ensures)
 
-product : (c : tie.After-times Inv-loop μ-loop) (y : K (L (c .before .before .before .before .before .before .before .before)) .Carrier) → Tabulates (L (c .before .before .before .before .before .before .before .before)) (table (c .before .before .before .before .before .before .before .before)) y → Holds (L (c .before .before .before .before .before .before .before .before)) (c .times .result .words) (K (L (c .before .before .before .before .before .before .before .before)) .mul y (P (c .before .before .before .before .before .before .before .before) (c .before .before .before .before .before .loop .e)))
+product : (c : tie.After-times Inv-loop μ-loop) (y : K (L (c .before .before .before .before .before .before .before .before)) .Carrier) → Multiplies (L (c .before .before .before .before .before .before .before .before)) (table (c .before .before .before .before .before .before .before .before)) y → Holds (L (c .before .before .before .before .before .before .before .before)) (c .times .result .words) (K (L (c .before .before .before .before .before .before .before .before)) .mul y (P (c .before .before .before .before .before .before .before .before) (c .before .before .before .before .before .loop .e)))
 product c y t = c .times .ensures y (P (c .before .before .before .before .before .before .before .before) (c .before .before .before .before .before .loop .e)) t (read (c .before .before))
 
 put-both-requires : tie.Need-put-both-requires Inv-loop μ-loop
@@ -97,7 +98,7 @@ put-both-requires c κs =
       inside (c .before .before .before .before .before) (s .args .b + l .e) (omega (arith, c .before .before .before .before .loop-test .taken)),
     )
 
-stored : (c : tie.After-put-both Inv-loop μ-loop) (y : K (L (c .before .before .before .before .before .before .before .before .before)) .Carrier) → Tabulates (L (c .before .before .before .before .before .before .before .before .before)) (table (c .before .before .before .before .before .before .before .before .before)) y
+stored : (c : tie.After-put-both Inv-loop μ-loop) (y : K (L (c .before .before .before .before .before .before .before .before .before)) .Carrier) → Multiplies (L (c .before .before .before .before .before .before .before .before .before)) (table (c .before .before .before .before .before .before .before .before .before)) y
     → Step (L (c .before .before .before .before .before .before .before .before .before)) (c .before .before .before .before .before .before .loop .buf) (c .put-both .last .0) (λ f g. PutTwo f g (c .before .before .before .before .before .before .before .before .before .args .a + c .before .before .before .before .before .before .loop .e) (term (c .before .before .before .before .before .before .before .before .before) (not (odd (c .before .before .before .before .before .before .before .before .before .args .w))) (K (L (c .before .before .before .before .before .before .before .before .before)) .mul y (P (c .before .before .before .before .before .before .before .before .before) (c .before .before .before .before .before .before .loop .e))) (up (K (L (c .before .before .before .before .before .before .before .before .before))) (P (c .before .before .before .before .before .before .before .before .before)) (c .before .before .before .before .before .before .loop .e))) (c .before .before .before .before .before .before .before .before .before .args .b + c .before .before .before .before .before .before .loop .e) (term (c .before .before .before .before .before .before .before .before .before) (odd (c .before .before .before .before .before .before .before .before .before .args .w)) (K (L (c .before .before .before .before .before .before .before .before .before)) .mul y (P (c .before .before .before .before .before .before .before .before .before) (c .before .before .before .before .before .before .loop .e))) (up (K (L (c .before .before .before .before .before .before .before .before .before))) (P (c .before .before .before .before .before .before .before .before .before)) (c .before .before .before .before .before .before .loop .e))))
 stored c y t =
     let s = c .before .before .before .before .before .before .before .before .before in

@@ -4,7 +4,7 @@ use Prim.Native.Nat.{ℕ, _+_, _-_, _*_, _^_, _≤_, _<_}
 use native.Mathlib.Omega.{arith}
 use borrow.Author.Needs.{needs}
 use lib.ListN.{length}
-use Rattle.field.specs.Packed.{Tabulates}
+use Rattle.field.specs.Packed.{Multiplies}
 use Rattle.field.specs.Level.{levelAt, K}
 use Rattle.field.specs.declared.Level.{Level}
 use Rattle.row.specs.Step.{Step, Put, Doubled}
@@ -79,7 +79,7 @@ add-double-2 : tie.Need-add-double-2 Inv-loop μ-loop
 add-double-2 c = omega (arith, c .before .before .before .before .before .before .before .before .before .before .before .before .pre .2, c .before .before .before .loop-test .taken)
 
 -- the table of the digit's offset
-tabled : (c : tie.After-of Inv-loop μ-loop) → Tabulates (L (c .before .before .before .before .before .before .before .before .before .before .before)) (c .of .result .words) (offsets (c .before .before .before .before .before .before .before .before .before .before .before) (c .before .before .before .before .before .before .before .before .before .before .before .args .d - 1 - c .before .before .before .loop .t))
+tabled : (c : tie.After-of Inv-loop μ-loop) → Multiplies (L (c .before .before .before .before .before .before .before .before .before .before .before)) (c .of .result) (offsets (c .before .before .before .before .before .before .before .before .before .before .before) (c .before .before .before .before .before .before .before .before .before .before .before .args .d - 1 - c .before .before .before .loop .t))
 tabled c =
     let s = c .before .before .before .before .before .before .before .before .before .before .before in
     c .of .ensures (offsets s (s .args .d - 1 - c .before .before .before .loop .t)) (c .before .get .ensures)

@@ -3,7 +3,7 @@ use Prim.Native.Nat.{ℕ, _+_, _-_, _≤_, _<_}
 use native.Mathlib.Omega.{arith}
 use borrow.Author.Needs.{needs}
 use lib.ListN.{length}
-use Rattle.field.specs.Packed.{Holds, Tabulates}
+use Rattle.field.specs.Packed.{Holds, Multiplies}
 use Rattle.field.specs.Level.{levelAt, K}
 use Rattle.field.specs.declared.Level.{Level}
 use Rattle.row.specs.Step.{Step, PutTwo, Twofold}
@@ -16,7 +16,7 @@ use Rattle.row.proofs.products.twin.Tie as tie
 abbrev Inv-loop : tie.InvT-loop
 Inv-loop buf₀ h level low high p₀ buf p =
     (p ≤ h) × (length buf ≡ length buf₀) × Words (levelAt level) buf
-    × ((a b : K (levelAt level) .Carrier) → Tabulates (levelAt level) (low .words) a → Tabulates (levelAt level) (high .words) b → Twofold (K (levelAt level)) (el (levelAt level) buf₀) (el (levelAt level) buf) h a b p)
+    × ((a b : K (levelAt level) .Carrier) → Multiplies (levelAt level) low a → Multiplies (levelAt level) high b → Twofold (K (levelAt level)) (el (levelAt level) buf₀) (el (levelAt level) buf) h a b p)
 
 abbrev μ-loop : tie.MeasureT-loop
 μ-loop buf₀ h level low high p₀ buf p = h - p
@@ -62,7 +62,7 @@ old c =
     let s = c .before .before .before .before .before .before .before in
     c .before .before .before .loop .inv .3 (A s) (B s) (c .before .before .before .before .before .of .ensures (A s) (s .pre .1)) (c .before .before .before .before .of2 .ensures (B s) (s .pre .2)) .ahead (c .before .before .before .loop .p) (omega arith) (c .before .before .loop-test .taken)
 
-low-holds : (c : tie.After-times Inv-loop μ-loop) (a : K (L (c .before .before .before .before .before .before .before .before .before)) .Carrier) → Tabulates (L (c .before .before .before .before .before .before .before .before .before)) (c .before .before .before .before .before .before .before .of .result .words) a → Holds (L (c .before .before .before .before .before .before .before .before .before)) (c .times .result .words) (K (L (c .before .before .before .before .before .before .before .before .before)) .mul a (el (L (c .before .before .before .before .before .before .before .before .before)) (c .before .before .before .before .before .loop .buf) (c .before .before .before .before .before .loop .p)))
+low-holds : (c : tie.After-times Inv-loop μ-loop) (a : K (L (c .before .before .before .before .before .before .before .before .before)) .Carrier) → Multiplies (L (c .before .before .before .before .before .before .before .before .before)) (c .before .before .before .before .before .before .before .of .result) a → Holds (L (c .before .before .before .before .before .before .before .before .before)) (c .times .result .words) (K (L (c .before .before .before .before .before .before .before .before .before)) .mul a (el (L (c .before .before .before .before .before .before .before .before .before)) (c .before .before .before .before .before .loop .buf) (c .before .before .before .before .before .loop .p)))
 low-holds c a t = c .times .ensures a (el (L (c .before .before .before .before .before .before .before .before .before)) (c .before .before .before .before .before .loop .buf) (c .before .before .before .before .before .loop .p)) t (c .before .before .get .ensures)
 
 put-two-requires : tie.Need-put-two-requires Inv-loop μ-loop
@@ -71,7 +71,7 @@ put-two-requires c κs =
     let l = c .before .before .before .before .before .before .loop in
     (l .inv .2, holds-held (L s) (c .before .times .result .words) (K (L s) .mul (A s) (el (L s) (l .buf) (l .p))) (low-holds (c .before) (A s) (c .before .before .before .before .before .before .before .before .of .ensures (A s) (s .pre .1))), omega (arith, c .before .before .before .before .before .loop-test .taken), inside (c .before .before .before .before .before) (l .p + s .args .h) (omega (arith, c .before .before .before .before .before .loop-test .taken)))
 
-stored : (c : tie.After-put-two Inv-loop μ-loop) (a b : K (L (c .before .before .before .before .before .before .before .before .before .before .before)) .Carrier) → Tabulates (L (c .before .before .before .before .before .before .before .before .before .before .before)) (c .before .before .before .before .before .before .before .before .before .of .result .words) a → Tabulates (L (c .before .before .before .before .before .before .before .before .before .before .before)) (c .before .before .before .before .before .before .before .before .of2 .result .words) b
+stored : (c : tie.After-put-two Inv-loop μ-loop) (a b : K (L (c .before .before .before .before .before .before .before .before .before .before .before)) .Carrier) → Multiplies (L (c .before .before .before .before .before .before .before .before .before .before .before)) (c .before .before .before .before .before .before .before .before .before .of .result) a → Multiplies (L (c .before .before .before .before .before .before .before .before .before .before .before)) (c .before .before .before .before .before .before .before .before .of2 .result) b
     → Step (L (c .before .before .before .before .before .before .before .before .before .before .before)) (c .before .before .before .before .before .before .before .loop .buf) (c .put-two .last .0) (λ f g. PutTwo f g (c .before .before .before .before .before .before .before .loop .p) (K (L (c .before .before .before .before .before .before .before .before .before .before .before)) .mul a (el (L (c .before .before .before .before .before .before .before .before .before .before .before)) (c .before .before .before .before .before .before .before .loop .buf) (c .before .before .before .before .before .before .before .loop .p))) (c .before .before .before .before .before .before .before .loop .p + c .before .before .before .before .before .before .before .before .before .before .before .args .h) (K (L (c .before .before .before .before .before .before .before .before .before .before .before)) .mul b (el (L (c .before .before .before .before .before .before .before .before .before .before .before)) (c .before .before .before .before .before .before .before .loop .buf) (c .before .before .before .before .before .before .before .loop .p))))
 stored c a b t u =
     let s = c .before .before .before .before .before .before .before .before .before .before .before in

@@ -33,7 +33,7 @@ terms s i = K (L s) .mul (smallOf (L s) (s .args .x .now) i) (el (L s) (s .args 
 loop-holds : tie.Need-loop-holds Inv-loop μ-loop
 loop-holds c =
     let s = c .before .before in
-    (omega arith, sym (mul-zero (s .args .s)), subst (Combines (L s) (replicate 33 0)) (sym (sum-none (K (L s)) (terms s))) (combines-none (s .args .level)))
+    (omega arith, sym (mul-zero (s .args .s)), subst (Combines (L s) (replicate 72 0)) (sym (sum-none (K (L s)) (terms s))) (combines-none (s .args .level)))
 
 inside : (c : tie.In-loop Inv-loop μ-loop) → c .before .loop .at + c .before .before .before .before .args .s ≤ c .before .before .before .before .args .s * c .before .before .before .before .args .n
 inside c = omega (arith, c .before .loop .inv .1, row-le (c .before .before .before .before .args .s) (c .before .loop .j) (c .before .before .before .before .args .n) (c .loop-test .taken))

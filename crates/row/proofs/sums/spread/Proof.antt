@@ -4,7 +4,7 @@ use native.Mathlib.Nat.{mul-zero}
 use native.Mathlib.Omega.{arith}
 use borrow.Author.Needs.{needs}
 use lib.ListN.{length}
-use Rattle.field.specs.Packed.{Tabulates}
+use Rattle.field.specs.Packed.{Multiplies}
 use Rattle.field.specs.Level.{levelAt, K}
 use Rattle.field.specs.declared.Level.{Level}
 use Rattle.row.specs.Lent.{smallOf, entryOf}
@@ -19,7 +19,7 @@ use Rattle.row.proofs.sums.spread.Tie as tie
 abbrev Inv-loop : tie.InvT-loop
 Inv-loop dst₀ a s k h n m i level multiples at₀ entry₀ e₀ dst at entry e =
     (e ≤ m) × (at ≡ a + s * e) × (entry ≡ n * e) × (length dst ≡ length dst₀) × Words (levelAt level) dst
-    × ((y : K (levelAt level) .Carrier) → Tabulates (levelAt level) (multiples .words) y → AddedDown (K (levelAt level)) (el (levelAt level) dst₀) (el (levelAt level) dst) a s k (λ r. K (levelAt level) .mul (entryOf (levelAt level) n h r i) y) e)
+    × ((y : K (levelAt level) .Carrier) → Multiplies (levelAt level) multiples y → AddedDown (K (levelAt level)) (el (levelAt level) dst₀) (el (levelAt level) dst) a s k (λ r. K (levelAt level) .mul (entryOf (levelAt level) n h r i) y) e)
 
 abbrev μ-loop : tie.MeasureT-loop
 μ-loop dst₀ a s k h n m i level multiples at₀ entry₀ e₀ dst at entry e = m - e
@@ -68,7 +68,7 @@ add-at-requires c κs =
     let l = c .before .before .before .before .loop in
     (l .inv .4, fits-le (L s) (l .at + s .args .k + 1) (s .args .a + s .args .s * s .args .m) (omega (arith, inside (c .before .before .before), s .pre .5)) (l .inv .3) (s .pre .6))
 
-stored : (c : tie.After-add-at Inv-loop μ-loop) (y : K (L (c .before .before .before .before .before .before .before .before .before)) .Carrier) → Tabulates (L (c .before .before .before .before .before .before .before .before .before)) (c .before .before .before .before .before .before .of .result .words) y
+stored : (c : tie.After-add-at Inv-loop μ-loop) (y : K (L (c .before .before .before .before .before .before .before .before .before)) .Carrier) → Multiplies (L (c .before .before .before .before .before .before .before .before .before)) (c .before .before .before .before .before .before .of .result) y
     → Step (L (c .before .before .before .before .before .before .before .before .before)) (c .before .before .before .before .before .loop .dst) (c .add-at .last .0) (λ f g. Put f g (c .before .before .before .before .before .before .before .before .before .args .a + c .before .before .before .before .before .before .before .before .before .args .s * c .before .before .before .before .before .loop .e + c .before .before .before .before .before .before .before .before .before .args .k) (K (L (c .before .before .before .before .before .before .before .before .before)) .add (f (c .before .before .before .before .before .before .before .before .before .args .a + c .before .before .before .before .before .before .before .before .before .args .s * c .before .before .before .before .before .loop .e + c .before .before .before .before .before .before .before .before .before .args .k)) (terms (c .before .before .before .before .before .before .before .before .before) y (c .before .before .before .before .before .loop .e))))
 stored c y t =
     let s = c .before .before .before .before .before .before .before .before .before in

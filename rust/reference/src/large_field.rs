@@ -1,71 +1,81 @@
 //! The large field K.
 
-use crate::small_field::F;
+use crate::level::{Level, FIRST, MOST_COORDINATES};
+use crate::small_field::Small;
 use std::ops::{Add, Mul};
 
-/// The number of coordinates: "elements of 12 coordinates from F".
-pub const COORDINATES: usize = 12;
-
-/// An element of K: "The large field K has elements of 12 coordinates from F,
-/// coordinate i belonging to Y^i".
+/// An element of K of a level. Of the first: "The large field K has elements
+/// of 12 coordinates from F, coordinate i belonging to Y^i". There is room for
+/// the coordinates of either level; those past the level's own are zero.
 #[derive(Clone, Copy, Debug, PartialEq, Eq, Hash)]
-pub struct K([F; COORDINATES]);
+pub struct Large<const LEVEL: usize>([Small<LEVEL>; MOST_COORDINATES]);
 
-impl K {
+/// An element of K of the first level.
+pub type K = Large<FIRST>;
+
+/// The number of coordinates at the first level: "elements of 12 coordinates
+/// from F".
+pub const COORDINATES: usize = K::COORDINATES;
+
+impl<const LEVEL: usize> Large<LEVEL> {
+    /// The number of coordinates.
+    pub const COORDINATES: usize = Level::of(LEVEL).coordinates;
+
     /// Zero.
-    pub const ZERO: K = K([F::ZERO; COORDINATES]);
+    pub const ZERO: Self = Large([Small::ZERO; MOST_COORDINATES]);
 
     /// One.
-    pub const ONE: K = K::unit(0);
+    pub const ONE: Self = Self::unit(0);
 
     /// Y.
-    pub const Y: K = K::unit(1);
+    pub const Y: Self = Self::unit(1);
 
     /// The element with one in coordinate i and zero in the others.
-    const fn unit(i: usize) -> K {
-        let mut coordinates = [F::ZERO; COORDINATES];
-        coordinates[i] = F::ONE;
-        K(coordinates)
+    const fn unit(i: usize) -> Self {
+        let mut coordinates = [Small::ZERO; MOST_COORDINATES];
+        coordinates[i] = Small::ONE;
+        Large(coordinates)
     }
 
     /// "An element of F is also the element of K with it in coordinate 0."
-    pub fn from_small(element: F) -> K {
-        let mut coordinates = [F::ZERO; COORDINATES];
+    pub fn from_small(element: Small<LEVEL>) -> Self {
+        let mut coordinates = [Small::ZERO; MOST_COORDINATES];
         coordinates[0] = element;
-        K(coordinates)
+        Large(coordinates)
     }
 
     /// A bit as the element 0 or 1, for "b times X" and "that bit times Δ".
-    pub fn from_bit(bit: bool) -> K {
+    pub fn from_bit(bit: bool) -> Self {
         if bit {
-            K::ONE
+            Self::ONE
         } else {
-            K::ZERO
+            Self::ZERO
         }
     }
 
     /// The element with these words: "one element is twelve 16-bit words,
-    /// coordinate 0 first"; none when there are not twelve words or one of
-    /// them is above 2047.
-    pub fn from_words(words: &[u16]) -> Option<K> {
-        if words.len() != COORDINATES {
+    /// coordinate 0 first", "at the second an element of K is 23 words"; none
+    /// when there are not as many words or one of them is above the limit.
+    pub fn from_words(words: &[u16]) -> Option<Self> {
+        if words.len() != Self::COORDINATES {
             return None;
         }
-        let mut coordinates = [F::ZERO; COORDINATES];
+        let mut coordinates = [Small::ZERO; MOST_COORDINATES];
         for (coordinate, &word) in coordinates.iter_mut().zip(words) {
-            *coordinate = F::from_word(word)?;
+            *coordinate = Small::from_word(word)?;
         }
-        Some(K(coordinates))
+        Some(Large(coordinates))
     }
 
-    /// The twelve words of the element, "coordinate 0 first".
-    pub fn words(self) -> [u16; COORDINATES] {
-        self.0.map(F::word)
+    /// The words of the element, "coordinate 0 first".
+    pub fn words(self) -> Vec<u16> {
+        let coordinates = &self.0[..Self::COORDINATES];
+        coordinates.iter().map(|c| c.word()).collect()
     }
 
     /// A power by repeated products; "the power 0 is one, for Δ zero too".
-    pub fn power(self, exponent: usize) -> K {
-        let mut result = K::ONE;
+    pub fn power(self, exponent: usize) -> Self {
+        let mut result = Self::ONE;
         for _ in 0..exponent {
             result = result * self;
         }
@@ -73,55 +83,53 @@ impl K {
     }
 }
 
-/// The number of coefficients of a product that is not reduced.
-const LONG: usize = 2 * COORDINATES - 1;
+/// Room for the coefficients of a product that is not reduced.
+const LONG: usize = 2 * MOST_COORDINATES - 1;
 
-/// The product of two polynomials in Y with 12 coefficients each, not
-/// reduced: coefficient i + j collects the products of coordinates i and j.
-/// Products with a zero coordinate add nothing and are left out.
-fn long_product(a: &[F; COORDINATES], b: &[F; COORDINATES]) -> [F; LONG] {
-    let mut product = [F::ZERO; LONG];
-    for i in 0..COORDINATES {
-        for j in 0..COORDINATES {
-            if a[i] != F::ZERO && b[j] != F::ZERO {
-                product[i + j] = product[i + j] + a[i] * b[j];
+/// The product of two polynomials in Y, not reduced: coefficient i + j
+/// collects the products of coordinates i and j. Products with a zero
+/// coordinate add nothing and are left out.
+fn long_product<const LEVEL: usize>(a: Large<LEVEL>, b: Large<LEVEL>) -> [Small<LEVEL>; LONG] {
+    let mut product = [Small::ZERO; LONG];
+    for i in 0..Large::<LEVEL>::COORDINATES {
+        for j in 0..Large::<LEVEL>::COORDINATES {
+            if a.0[i] != Small::ZERO && b.0[j] != Small::ZERO {
+                product[i + j] = product[i + j] + a.0[i] * b.0[j];
             }
         }
     }
     product
 }
 
-/// The remainder of division by Y^12 + Y^3 + 1, that is "Y^12 = Y^3 + 1":
-/// from the highest power down, c times Y^(power - 12) times the divisor takes
-/// the term c Y^power away.
-fn remainder(dividend: [F; LONG]) -> [F; COORDINATES] {
+/// The remainder of division by Y^coordinates + Y^power + 1, so at the first
+/// level "Y^12 = Y^3 + 1": from the highest power of Y down, a multiple of the
+/// divisor takes each from Y^coordinates on away.
+fn remainder<const LEVEL: usize>(dividend: [Small<LEVEL>; LONG]) -> Large<LEVEL> {
+    let level = Level::of(LEVEL);
     let mut rest = dividend;
-    for power in (COORDINATES..LONG).rev() {
-        let c = rest[power];
-        let shift = power - COORDINATES;
-        rest[shift + 12] = rest[shift + 12] + c;
-        rest[shift + 3] = rest[shift + 3] + c;
-        rest[shift] = rest[shift] + c;
+    for shift in (0..level.coordinates - 1).rev() {
+        let c = rest[shift + level.coordinates];
+        for power in [level.coordinates, level.power, 0] {
+            rest[shift + power] = rest[shift + power] + c;
+        }
     }
-    let mut coordinates = [F::ZERO; COORDINATES];
-    coordinates.copy_from_slice(&rest[..COORDINATES]);
-    coordinates
+    Large(std::array::from_fn(|i| rest[i]))
 }
 
 /// The sum in K, coordinate by coordinate.
-impl Add for K {
-    type Output = K;
+impl<const LEVEL: usize> Add for Large<LEVEL> {
+    type Output = Self;
 
-    fn add(self, other: K) -> K {
-        K(std::array::from_fn(|i| self.0[i] + other.0[i]))
+    fn add(self, other: Self) -> Self {
+        Large(std::array::from_fn(|i| self.0[i] + other.0[i]))
     }
 }
 
-/// The product in K, "with Y^12 = Y^3 + 1".
-impl Mul for K {
-    type Output = K;
+/// The product in K, "with Y^12 = Y^3 + 1", or with the rule of the level.
+impl<const LEVEL: usize> Mul for Large<LEVEL> {
+    type Output = Self;
 
-    fn mul(self, other: K) -> K {
-        K(remainder(long_product(&self.0, &other.0)))
+    fn mul(self, other: Self) -> Self {
+        remainder(long_product(self, other))
     }
 }

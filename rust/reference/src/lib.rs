@@ -7,7 +7,8 @@
 //! that cut the bytes into fields first and judge the fields afterwards.
 //! Nothing here is meant to be quick or to run in constant time.
 //!
-//! - [`small_field`] and [`large_field`]: the fields F and K;
+//! - [`level`]: what the two levels fix of the fields;
+//! - [`small_field`] and [`large_field`]: the fields F and K of a level;
 //! - [`polynomial`]: polynomials over K;
 //! - [`key`]: sizes, key, digits and the conversion of lent slices;
 //! - [`constraint`]: the n + m polynomials and the verifier's n + m values;
@@ -16,7 +17,8 @@
 //! - [`package`]: the readers, and writers for test files;
 //! - [`perkcheck`]: the line that the program `perkcheck` prints;
 //! - [`samples`] and [`vectors`]: seeded test data and the files of `vectors/`;
-//! - [`examples`]: what the program `examples_run` prints.
+//! - [`examples`]: what the program `examples_run` prints;
+//! - [`field_cases`]: what the program `field_cases` reads and prints.
 #![forbid(unsafe_code)]
 #![deny(missing_docs)]
 
@@ -24,8 +26,10 @@ pub mod check_zero;
 pub mod constraint;
 pub mod entries;
 pub mod examples;
+pub mod field_cases;
 pub mod key;
 pub mod large_field;
+pub mod level;
 pub mod package;
 pub mod perkcheck;
 pub mod polynomial;

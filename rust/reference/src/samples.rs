@@ -2,10 +2,11 @@
 
 use crate::entries::prove;
 use crate::key::{elements_of_k, Sizes};
-use crate::large_field::{COORDINATES, K};
+use crate::large_field::{Large, COORDINATES, K};
+use crate::level::FIRST;
 use crate::package::{check_fields, join, package_fields, WrittenField};
 use crate::refusal::Refusal;
-use crate::small_field::F;
+use crate::small_field::{Small, F};
 
 /// The generator splitmix64. The same seed gives the same numbers.
 #[derive(Clone, Debug)]
@@ -31,9 +32,22 @@ impl Generator {
         (self.number() % limit as u64) as usize
     }
 
+    /// An element of F of a level.
+    pub fn small<const LEVEL: usize>(&mut self) -> Small<LEVEL> {
+        let word = self.below(usize::from(Small::<LEVEL>::LARGEST) + 1);
+        Small::from_word(word as u16).expect("a word up to the largest")
+    }
+
+    /// An element of K of a level.
+    pub fn large<const LEVEL: usize>(&mut self) -> Large<LEVEL> {
+        let count = Large::<LEVEL>::COORDINATES;
+        let words: Vec<u16> = (0..count).map(|_| self.small::<LEVEL>().word()).collect();
+        Large::from_words(&words).expect("words of elements of F")
+    }
+
     /// A word 0 to 2047.
     pub fn word(&mut self) -> u16 {
-        self.below(2048) as u16
+        self.small::<FIRST>().word()
     }
 
     /// Words 0 to 2047.
@@ -46,9 +60,9 @@ impl Generator {
         (0..count).map(|_| self.below(2) as u8).collect()
     }
 
-    /// An element of K.
+    /// An element of K of the first level.
     pub fn element(&mut self) -> K {
-        K::from_words(&self.words(COORDINATES)).expect("twelve words up to 2047")
+        self.large()
     }
 
     /// The numbers 0 to n - 1 in random order.

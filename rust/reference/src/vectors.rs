@@ -3,6 +3,7 @@
 
 use crate::entries::{constraints, values};
 use crate::examples;
+use crate::field_cases;
 use crate::key::Sizes;
 use crate::large_field::COORDINATES;
 use crate::package::{join, WrittenField};
@@ -27,6 +28,9 @@ pub fn all() -> Vec<File> {
         files.push((text_name(n, m), text(&sample(n, m)).into_bytes()));
     }
     files.extend(Cases::all().files());
+    let cases = field_cases::Cases::all();
+    files.push(("field_cases/stdin".to_string(), cases.stdin()));
+    files.push(("field_cases/stdout".to_string(), cases.stdout()));
     files
 }
 

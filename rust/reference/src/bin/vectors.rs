@@ -5,15 +5,19 @@ use std::path::Path;
 use std::process::ExitCode;
 use std::{env, fs, io};
 
-/// Writes all files. The directory `perkcheck_cases` is made anew, so that no
-/// file of an earlier form stays in it.
+/// Writes all files. The directories of cases are made anew, so that no file
+/// of an earlier form stays in them.
 fn write_all(directory: &Path) -> io::Result<()> {
     let files = reference::vectors::all();
-    let cases = directory.join("perkcheck_cases");
-    if cases.exists() {
-        fs::remove_dir_all(&cases)?;
+    for cases in ["perkcheck_cases", "field_cases"] {
+        let cases = directory.join(cases);
+        if cases.exists() {
+            fs::remove_dir_all(&cases)?;
+        }
     }
-    fs::create_dir_all(cases.join("data"))?;
+    for cases in ["perkcheck_cases/data", "field_cases"] {
+        fs::create_dir_all(directory.join(cases))?;
+    }
     let mut total = 0;
     for (path, bytes) in &files {
         fs::write(directory.join(path), bytes)?;

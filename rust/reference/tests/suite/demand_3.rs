@@ -4,6 +4,7 @@
 use crate::fields::product_by_doubling;
 use crate::{constraints_of, large, tops, values_of};
 use reference::large_field::K;
+use reference::level::FIRST;
 use reference::samples::{Generator, Sample};
 
 /// What the positions are, judged without any polynomial.
@@ -32,7 +33,7 @@ fn kind(sample: &Sample) -> Kind {
     for e in 0..m {
         let mut sum = 0;
         for (i, &position) in positions.iter().enumerate() {
-            sum ^= product_by_doubling(sample.h[e * n + i], sample.x[position]);
+            sum ^= product_by_doubling::<FIRST>(sample.h[e * n + i], sample.x[position]);
         }
         if sum != 0 {
             return Kind::OtherOrder;

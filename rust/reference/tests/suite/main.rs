@@ -3,6 +3,7 @@
 
 mod demand_3;
 mod examples;
+mod field_cases;
 mod fields;
 mod proofs;
 mod readers;

@@ -15,8 +15,9 @@ fn directory() -> PathBuf {
 }
 
 /// The cases stand with the program that runs them, beside its code.
-fn cases() -> PathBuf {
-    Path::new(env!("CARGO_MANIFEST_DIR")).join("../../crates/perkcheck_cases")
+fn program(name: &str) -> PathBuf {
+    let crates = Path::new(env!("CARGO_MANIFEST_DIR")).join("../../crates");
+    crates.join(name)
 }
 
 /// The files below a directory, by their paths from there.
@@ -37,10 +38,16 @@ fn stored(directory: &Path, prefix: &str, files: &mut BTreeMap<String, Vec<u8>>)
 fn the_stored_files_are_the_written_ones() {
     let mut files = BTreeMap::new();
     stored(&directory(), "", &mut files);
-    stored(&cases().join("data"), "perkcheck_cases/data/", &mut files);
-    for name in ["args", "stdout"] {
-        let bytes = fs::read(cases().join(name)).expect("a readable file");
-        files.insert(format!("perkcheck_cases/{name}"), bytes);
+    let data = program("perkcheck_cases").join("data");
+    stored(&data, "perkcheck_cases/data/", &mut files);
+    for (crate_name, name) in [
+        ("perkcheck_cases", "args"),
+        ("perkcheck_cases", "stdout"),
+        ("field_cases", "stdin"),
+        ("field_cases", "stdout"),
+    ] {
+        let bytes = fs::read(program(crate_name).join(name)).expect("a readable file");
+        files.insert(format!("{crate_name}/{name}"), bytes);
     }
     let written: BTreeMap<String, Vec<u8>> = all().into_iter().collect();
     let names: Vec<&String> = files.keys().collect();

@@ -34,9 +34,9 @@ room l = (l .coordinates + 3) / 4
 unfoldable pub Tabulates : (l : Level) → List ℕ → K l .Carrier → Type 0
 Tabulates l ts x = (k : ℕ) → k < l .width → Holds l (drop (room l * k) ts) (K l .mul (embed l .map (small l (2 ^ k))) x)
 
--- the multiples of x, in the array of the level: elements of more than three words have the second
+-- a factor x of products: its multiples, or, where an element has more than three words, x itself
 abbrev pub Multiplies : (l : Level) → Multiples → K l .Carrier → Type 0
-Multiplies l m x = Tabulates l (cond (leb (room l) 3) (m .words) (m .wide)) x
+Multiplies l m x = cond (leb (room l) 3) (Tabulates l (m .words) x) (Holds l (m .words) x)
 
 -- each lane of r is z times that lane of x, where it and those below have w digits; z^w = z^t + 1
 abbrev pub TimesZ : (w t x r : ℕ) → Type 0

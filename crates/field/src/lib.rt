@@ -77,11 +77,10 @@ pub struct Element {
     pub words: [u64; WORDS],
 }
 
-// The multiples of an element by 1, z, z^2 and so on, for a factor of many products. Each level has an array of its own, since the
-// words moved are what a table costs.
+// A factor of many products: at the first level its multiples by 1, z, z^2 and so on, at the second the factor itself, whose
+// multiples each product makes. It is handed on by value, and the words moved are what it costs.
 pub struct Multiples {
     pub words: [u64; NARROW],
-    pub wide: [u64; TABLE],
 }
 
 impl Element {
@@ -226,29 +225,27 @@ impl Multiples {
         ensures { λ r. ⌜ ((x : K (levelAt level) .Carrier) → Holds (levelAt level) (factor .words) x → Multiplies (levelAt level) r x) ⌝ }
     {
         let a = factor.words;
-        if level == SECOND {
-            let mut wide = [0u64; TABLE];
-            packed::multiples(&mut wide, &a, SECOND);
-            let none = [0u64; NARROW];
-            return Multiples { words: none, wide };
-        }
         let mut words = [0u64; NARROW];
+        if level == SECOND {
+            packed::add(&mut words, &a, 1, SECOND);
+            return Multiples { words };
+        }
         packed::multiples(&mut words, &a, FIRST);
-        let blank = [0u64; TABLE];
-        Multiples { words, wide: blank }
+        Multiples { words }
     }
 
     // The factor times another element.
     pub fn times(self, other: Element, level: usize) -> Element
         ensures { λ r. ⌜ ((x y : K (levelAt level) .Carrier) → Multiplies (levelAt level) self x → Holds (levelAt level) (other .words) y → Holds (levelAt level) (r .words) (K (levelAt level) .mul x y)) ⌝ }
     {
+        let table = self.words;
         let b = other.words;
         if level == SECOND {
-            let long = self.wide;
+            let mut long = [0u64; TABLE];
+            packed::multiples(&mut long, &table, SECOND);
             let all = packed::product(&long, &b, SECOND);
             return Element { words: all };
         }
-        let table = self.words;
         let words = packed::product(&table, &b, FIRST);
         Element { words }
     }
@@ -257,13 +254,14 @@ impl Multiples {
     pub fn scaled(self, f: u16, level: usize) -> Element
         ensures { λ r. ⌜ ((x : K (levelAt level) .Carrier) → f ≤ levelAt level .limit → Multiplies (levelAt level) self x → Holds (levelAt level) (r .words) (K (levelAt level) .mul (embed (levelAt level) .map (small (levelAt level) f)) x)) ⌝ }
     {
+        let table = self.words;
         let mut words = [0u64; WORDS];
         if level == SECOND {
-            let long = self.wide;
+            let mut long = [0u64; TABLE];
+            packed::multiples(&mut long, &table, SECOND);
             packed::scaled(&mut words, &long, f, SECOND);
             return Element { words };
         }
-        let table = self.words;
         packed::scaled(&mut words, &table, f, FIRST);
         Element { words }
     }

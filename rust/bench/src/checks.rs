@@ -1,9 +1,9 @@
 //! The refusals of the entries, with their numbers in C.
 
 use crate::packed::COORDINATES;
-use crate::rows::Key;
-use reference::key::{judge_lengths, Sizes};
-use reference::Refusal;
+use crate::rows::Within;
+use reference::key::Sizes;
+use reference::{Key, Refusal};
 
 /// The largest element of F, which has all its digits set.
 const LIMIT: u16 = 2047;
@@ -62,26 +62,14 @@ pub struct Slices<'a, const N: usize> {
 }
 
 /// The refusals 1 to 7, and the key where none applies.
-pub fn keyed<'a, const N: usize>(
-    n: usize,
-    m: usize,
-    h: &'a [u16],
-    x: &'a [u16],
-    slices: Slices<N>,
-) -> Result<Key<'a>, Refusal> {
-    let sizes = Sizes::judged(n, m)?;
-    judge_lengths(&[(h.len(), sizes.h_words()), (x.len(), sizes.x_words())])?;
+pub fn keyed<'a, const N: usize>(key: Key<'a>, slices: Slices<N>) -> Result<Within<'a>, Refusal> {
+    let sizes = key.sizes()?;
+    key.judge_lengths(sizes, &[])?;
     unless((slices.lengths)(sizes) != slices.lent, Refusal::SliceLength)?;
-    unless(above(h) || above(x), Refusal::KeyElement)?;
+    unless(above(key.h) || above(key.x), Refusal::KeyElement)?;
     unless(longer(slices.bits, 1), Refusal::Bit)?;
     let mut elements = slices.elements.iter();
     unless(elements.any(|words| above(words)), Refusal::Coordinate)?;
     unless(longer(slices.positions, sizes.d), Refusal::Position)?;
-    Ok(Key {
-        n,
-        m,
-        d: sizes.d,
-        h,
-        x,
-    })
+    Ok(Within { key, d: sizes.d })
 }

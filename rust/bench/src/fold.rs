@@ -3,7 +3,7 @@
 //! into one.
 
 use crate::packed::{load, mask, masked, plus, Element, Multiples, ZERO};
-use crate::rows::{Key, COEFFICIENTS, COLUMNS};
+use crate::rows::{Within, COEFFICIENTS, COLUMNS};
 
 /// The weights of a key's polynomials.
 struct Weights {
@@ -17,20 +17,20 @@ struct Weights {
 
 impl Weights {
     /// The weights of lent words.
-    fn of(key: Key, alpha: &[u16]) -> Weights {
+    fn of(key: Within, alpha: &[u16]) -> Weights {
         let mut weights = Weights {
             columns: [ZERO; COLUMNS],
             entries: [ZERO; COLUMNS],
             x: [0; COLUMNS],
         };
-        for j in 0..key.n {
+        for j in 0..key.key.n {
             weights.columns[j] = load(alpha, j);
-            weights.x[j] = u64::from(key.x[j]);
+            weights.x[j] = u64::from(key.key.x[j]);
         }
-        for e in 0..key.m {
-            let multiples = Multiples::of(load(alpha, key.n + e));
-            for i in 0..key.n {
-                let term = multiples.scaled(u64::from(key.h[e * key.n + i]));
+        for e in 0..key.key.m {
+            let multiples = Multiples::of(load(alpha, key.key.n + e));
+            for i in 0..key.key.n {
+                let term = multiples.scaled(u64::from(key.key.h[e * key.key.n + i]));
                 weights.entries[i] = plus(weights.entries[i], term);
             }
         }
@@ -40,7 +40,7 @@ impl Weights {
 
 /// Adds the coefficients below X^d of the weighted sum of the polynomials to
 /// `a`. Digits and offsets are secret: no branch and no index depends on them.
-pub fn polynomials(key: Key, positions: &[u8], v: &[u16], alpha: &[u16], a: &mut [Element]) {
+pub fn polynomials(key: Within, positions: &[u8], v: &[u16], alpha: &[u16], a: &mut [Element]) {
     let d = key.d;
     let size = d + 1;
     let weights = Weights::of(key, alpha);
@@ -72,16 +72,16 @@ pub fn polynomials(key: Key, positions: &[u8], v: &[u16], alpha: &[u16], a: &mut
 }
 
 /// The weighted sum of the values.
-pub fn values(key: Key, t: &[u8], q: &[u16], delta: &Multiples, alpha: &[u16]) -> Element {
+pub fn values(key: Within, t: &[u8], q: &[u16], delta: &Multiples, alpha: &[u16]) -> Element {
     let d = key.d;
     let weights = Weights::of(key, alpha);
     let mut raised = [ZERO; COLUMNS];
-    for (raised, weight) in raised.iter_mut().zip(&weights.columns[..key.n]) {
+    for (raised, weight) in raised.iter_mut().zip(&weights.columns[..key.key.n]) {
         *raised = delta.times(weight);
     }
     let mut total = ZERO;
     let mut work = [ZERO; COLUMNS / 2];
-    for i in 0..key.n {
+    for i in 0..key.key.n {
         let entry = Multiples::of(weights.entries[i]);
         let raised_entry = Multiples::of(delta.times(&weights.entries[i]));
         let mut half = 1 << (d - 1);

@@ -1,7 +1,7 @@
 //! The implementations that are compared, each by the functions of its entries.
 
 use crate::{of_reference, rust};
-use comparison::perk;
+use comparison::library;
 use reference::samples::Sample;
 
 /// Sum or product of two elements of K.
@@ -68,17 +68,12 @@ macro_rules! keyed {
         use $module as module;
         [
             |Material { sample: k, .. }, t, out| {
-                module::constraints(k.n, k.m, &k.h, &k.x, &k.positions, &k.u, &k.v, t, out)
+                module::constraints(k.key(), &k.positions, &k.u, &k.v, t, out)
             },
-            |Material { sample: k, t, .. }, _, out| {
-                module::values(k.n, k.m, &k.h, &k.x, t, &k.q, &k.delta, out)
-            },
+            |Material { sample: k, t, .. }, _, out| module::values(k.key(), t, &k.q, &k.delta, out),
             |Material { sample: k, .. }, t, out| {
                 module::prove(
-                    k.n,
-                    k.m,
-                    &k.h,
-                    &k.x,
+                    k.key(),
                     &k.positions,
                     &k.u,
                     &k.v,
@@ -90,9 +85,7 @@ macro_rules! keyed {
                 )
             },
             |Material { sample: k, t, a }, _, _| {
-                module::verify(
-                    k.n, k.m, &k.h, &k.x, t, &k.q, &k.delta, &k.masks, &k.alpha, a,
-                )
+                module::verify(k.key(), t, &k.q, &k.delta, &k.masks, &k.alpha, a)
             },
         ]
     }};
@@ -120,10 +113,10 @@ macro_rules! filed {
 pub const ALL: &[Implementation] = &[
     Implementation {
         name: "library",
-        sum: perk::sum,
-        product: perk::product,
-        keyed: keyed!(perk),
-        filed: filed!(perk),
+        sum: library::sum,
+        product: library::product,
+        keyed: keyed!(library),
+        filed: filed!(library),
         counted: true,
     },
     Implementation {
@@ -145,10 +138,10 @@ pub const ALL: &[Implementation] = &[
     #[cfg(feature = "other")]
     Implementation {
         name: "other",
-        sum: perk::other::sum,
-        product: perk::other::product,
-        keyed: keyed!(perk::other),
-        filed: filed!(perk::other),
+        sum: library::other::sum,
+        product: library::other::product,
+        keyed: keyed!(library::other),
+        filed: filed!(library::other),
         counted: true,
     },
 ];

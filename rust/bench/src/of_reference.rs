@@ -1,6 +1,6 @@
-//! The entries of the reference as functions like those of `comparison::perk`.
+//! The entries of the reference as functions like those of `comparison::library`.
 
-use reference::{Contents, Refusal, Verdict};
+use reference::{Contents, Key, Refusal, Verdict};
 
 /// The number of an answer.
 fn number(answer: Result<(), Refusal>) -> u32 {
@@ -18,14 +18,14 @@ fn of_verdict(answer: Result<Verdict, Refusal>) -> u32 {
 
 /// Declares functions whose last parameters are written.
 macro_rules! entries {
-    ($($name:ident ($($number:ident),*) ($($input:ident: $read:ty),*) ($($output:ident: $written:ty),*) $answer:ident;)*) => {$(
+    ($($name:ident ($($key:ident)?) ($($input:ident: $read:ty),*) ($($output:ident: $written:ty),*) $answer:ident;)*) => {$(
         #[allow(clippy::too_many_arguments)]
         pub fn $name(
-            $($number: usize,)*
+            $($key: Key<'_>,)?
             $($input: &[$read],)*
             $($output: &mut [$written],)*
         ) -> u32 {
-            $answer(reference::$name($($number,)* $($input,)* $($output),*))
+            $answer(reference::$name($($key,)? $($input,)* $($output),*))
         }
     )*};
 }
@@ -33,10 +33,10 @@ macro_rules! entries {
 entries! {
     sum () (a: u16, b: u16) (out: u16) number;
     product () (a: u16, b: u16) (out: u16) number;
-    constraints (n, m) (h: u16, x: u16, positions: u8, u: u8, v: u16) (t: u8, polynomials: u16) number;
-    values (n, m) (h: u16, x: u16, t: u8, q: u16, delta: u16) (values: u16) number;
-    prove (n, m) (h: u16, x: u16, positions: u8, u: u8, v: u16, r: u16, s: u16, alpha: u16) (t: u8, a: u16) number;
-    verify (n, m) (h: u16, x: u16, t: u8, q: u16, delta: u16, masks: u16, alpha: u16, a: u16) () of_verdict;
+    constraints (key) (positions: u8, u: u8, v: u16) (t: u8, polynomials: u16) number;
+    values (key) (t: u8, q: u16, delta: u16) (values: u16) number;
+    prove (key) (positions: u8, u: u8, v: u16, r: u16, s: u16, alpha: u16) (t: u8, a: u16) number;
+    verify (key) (t: u8, q: u16, delta: u16, masks: u16, alpha: u16, a: u16) () of_verdict;
 }
 
 /// Writes what a reader answers.

@@ -3,6 +3,7 @@
 //! of all rows.
 
 use crate::packed::{load, mask, masked, plus, Element, Multiples, Sums, ONE, ZERO};
+use reference::Key;
 
 /// The largest number of columns.
 pub const COLUMNS: usize = 64;
@@ -15,36 +16,30 @@ pub const POLYNOMIALS: usize = 2 * COLUMNS - 1;
 
 /// A key within the limits.
 #[derive(Clone, Copy)]
-pub struct Key<'a> {
-    /// The size n.
-    pub n: usize,
-    /// The size m.
-    pub m: usize,
+pub struct Within<'a> {
+    /// The key.
+    pub key: Key<'a>,
     /// The number of digits.
     pub d: usize,
-    /// H, row after row.
-    pub h: &'a [u16],
-    /// The vector x.
-    pub x: &'a [u16],
 }
 
-impl Key<'_> {
+impl Within<'_> {
     /// Adds row i's share to the n + m sums of `size` coefficients each. The
     /// row's products stand in `work`.
     fn share(self, sums: &mut [Element], work: &[Element], size: usize, i: usize) {
-        let columns = size * self.n;
+        let columns = size * self.key.n;
         for (sum, &product) in sums.iter_mut().zip(&work[..columns]) {
             *sum = plus(*sum, product);
         }
         for k in 0..size {
             let mut entry = Sums::new();
-            for j in 0..self.n {
-                entry.add(work[size * j + k], u64::from(self.x[j]));
+            for j in 0..self.key.n {
+                entry.add(work[size * j + k], u64::from(self.key.x[j]));
             }
             let multiples = Multiples::of(entry.total());
-            for e in 0..self.m {
+            for e in 0..self.key.m {
                 let sum = &mut sums[columns + size * e + k];
-                let factor = u64::from(self.h[e * self.n + i]);
+                let factor = u64::from(self.key.h[e * self.key.n + i]);
                 *sum = plus(*sum, multiples.scaled(factor));
             }
         }
@@ -76,7 +71,7 @@ impl Key<'_> {
             }
             self.share(sums, &work, size, i);
         }
-        for j in 0..self.n {
+        for j in 0..self.key.n {
             sums[size * j + self.d][0] ^= 1;
         }
     }
@@ -96,7 +91,7 @@ impl Key<'_> {
             }
             self.share(sums, &work, 1, i);
         }
-        for sum in &mut sums[..self.n] {
+        for sum in &mut sums[..self.key.n] {
             sum[0] ^= 1;
         }
     }
@@ -104,7 +99,7 @@ impl Key<'_> {
     /// The values.
     pub fn values(self, bits: &[u8], q: &[u16], delta: Element, sums: &mut [Element]) {
         let mut work = [ZERO; COLUMNS];
-        for i in 0..self.n {
+        for i in 0..self.key.n {
             work[0] = ONE;
             for t in 0..self.d {
                 let at = self.d * i + self.d - 1 - t;
@@ -122,7 +117,7 @@ impl Key<'_> {
         }
         let multiples = Multiples::of(delta);
         let power = (0..self.d).fold(ONE, |power, _| multiples.times(&power));
-        for sum in &mut sums[..self.n] {
+        for sum in &mut sums[..self.key.n] {
             *sum = plus(*sum, power);
         }
     }

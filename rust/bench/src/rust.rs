@@ -1,11 +1,11 @@
 //! The entries in Rust, by the algorithms of the library: the functions on
-//! slices of `comparison::perk` that take elements and keys.
+//! slices of `comparison::library` that take elements and keys.
 
 use crate::checks::{elements, keyed, Slices};
 use crate::fold;
 use crate::packed::{load, plus, store, Element, Multiples, ZERO};
 use crate::rows::{COEFFICIENTS, POLYNOMIALS};
-use reference::Refusal;
+use reference::{Key, Refusal};
 
 /// The number of an answer.
 fn number(answer: Result<(), Refusal>) -> u32 {
@@ -29,10 +29,7 @@ pub fn product(a: &[u16], b: &[u16], out: &mut [u16]) -> u32 {
 /// The entry constraints.
 #[allow(clippy::too_many_arguments)]
 pub fn constraints(
-    n: usize,
-    m: usize,
-    h: &[u16],
-    x: &[u16],
+    key: Key<'_>,
     positions: &[u8],
     u: &[u8],
     v: &[u16],
@@ -60,7 +57,7 @@ pub fn constraints(
         elements: &[v],
         positions,
     };
-    number(keyed(n, m, h, x, slices).map(|key| {
+    number(keyed(key, slices).map(|key| {
         let mut sums = [ZERO; COEFFICIENTS * POLYNOMIALS];
         key.polynomials(positions, v, &mut sums);
         key.masked_witness(positions, u, t);
@@ -70,16 +67,7 @@ pub fn constraints(
 
 /// The entry values.
 #[allow(clippy::too_many_arguments)]
-pub fn values(
-    n: usize,
-    m: usize,
-    h: &[u16],
-    x: &[u16],
-    t: &[u8],
-    q: &[u16],
-    delta: &[u16],
-    values: &mut [u16],
-) -> u32 {
+pub fn values(key: Key<'_>, t: &[u8], q: &[u16], delta: &[u16], values: &mut [u16]) -> u32 {
     let slices = Slices {
         lengths: |sizes| {
             [
@@ -94,7 +82,7 @@ pub fn values(
         elements: &[q, delta],
         positions: &[],
     };
-    number(keyed(n, m, h, x, slices).map(|key| {
+    number(keyed(key, slices).map(|key| {
         let mut sums = [ZERO; POLYNOMIALS];
         key.values(t, q, load(delta, 0), &mut sums);
         store(&sums, values);
@@ -104,10 +92,7 @@ pub fn values(
 /// The entry prove.
 #[allow(clippy::too_many_arguments)]
 pub fn prove(
-    n: usize,
-    m: usize,
-    h: &[u16],
-    x: &[u16],
+    key: Key<'_>,
     positions: &[u8],
     u: &[u8],
     v: &[u16],
@@ -144,7 +129,7 @@ pub fn prove(
         elements: &[v, r, s, alpha],
         positions,
     };
-    number(keyed(n, m, h, x, slices).and_then(|key| {
+    number(keyed(key, slices).and_then(|key| {
         let mut tops = [ZERO; POLYNOMIALS];
         key.tops(positions, &mut tops);
         let any = |all: u64, top: &Element| all | top[0] | top[1] | top[2];
@@ -166,10 +151,7 @@ pub fn prove(
 /// The entry verify.
 #[allow(clippy::too_many_arguments)]
 pub fn verify(
-    n: usize,
-    m: usize,
-    h: &[u16],
-    x: &[u16],
+    key: Key<'_>,
     t: &[u8],
     q: &[u16],
     delta: &[u16],
@@ -200,7 +182,7 @@ pub fn verify(
         elements: &[q, delta, masks, alpha, a],
         positions: &[],
     };
-    let key = match keyed(n, m, h, x, slices) {
+    let key = match keyed(key, slices) {
         Ok(key) => key,
         Err(refusal) => return refusal.number(),
     };

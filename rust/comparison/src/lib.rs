@@ -1,7 +1,7 @@
 //! Compares the entries of the static library libperk.a with the reference
 //! implementation, on seeded inputs, and with the test vectors.
 //!
-//! - [`perk`]: the C functions of the library, as functions on slices;
+//! - [`library`]: the C functions of the library, as functions on slices;
 //! - [`lent`]: lent slices with guard words on both sides;
 //! - [`case`]: an entry, its groups of cases, and one case;
 //! - [`run`]: the calls, the comparisons and the report;
@@ -10,7 +10,7 @@
 //! - [`program`]: the program perkcheck, run with files on a pipe;
 //! - [`vectors`]: the files of `vectors/`, read back, as what is expected.
 //!
-//! A new entry needs its C function in [`perk`], a file in [`entries`], and a
+//! A new entry needs its C function in [`library`], a file in [`entries`], and a
 //! place in the list [`entries::ALL`].
 #![deny(missing_docs)]
 #![deny(unsafe_code)]
@@ -18,7 +18,7 @@
 pub mod case;
 pub mod entries;
 pub mod lent;
-pub mod perk;
+pub mod library;
 pub mod program;
 pub mod run;
 pub mod vectors;

@@ -53,7 +53,8 @@
 #![deny(unsafe_op_in_unsafe_fn)]
 #![deny(clippy::undocumented_unsafe_blocks)]
 
-mod c;
+#[doc(hidden)]
+pub mod c;
 mod package;
 mod refusal;
 

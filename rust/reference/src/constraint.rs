@@ -1,6 +1,6 @@
 //! The n + m polynomials, and the n + m values of the verifier.
 
-use crate::key::{digits, Key};
+use crate::key::{digits, WellFormed};
 use crate::large_field::K;
 use crate::polynomial::Polynomial;
 
@@ -38,7 +38,7 @@ pub fn z(w_row: &[bool], v_row: &[K], j: usize) -> Polynomial {
 }
 
 /// All z(i,j), row i first.
-fn all_z(key: &Key, w: &[Vec<bool>], v: &[Vec<K>]) -> Vec<Vec<Polynomial>> {
+fn all_z(key: &WellFormed, w: &[Vec<bool>], v: &[Vec<K>]) -> Vec<Vec<Polynomial>> {
     let n = key.sizes.n;
     (0..n)
         .map(|i| (0..n).map(|j| z(&w[i], &v[i], j)).collect())
@@ -47,7 +47,7 @@ fn all_z(key: &Key, w: &[Vec<bool>], v: &[Vec<K>]) -> Vec<Vec<Polynomial>> {
 
 /// "Polynomial j, for j below n: the sum of z(i,j) over all rows i, minus
 /// X^d."
-fn column_polynomial(key: &Key, z: &[Vec<Polynomial>], j: usize) -> Polynomial {
+fn column_polynomial(key: &WellFormed, z: &[Vec<Polynomial>], j: usize) -> Polynomial {
     let mut sum = Polynomial::zero();
     for row in z {
         sum = sum + row[j].clone();
@@ -56,7 +56,7 @@ fn column_polynomial(key: &Key, z: &[Vec<Polynomial>], j: usize) -> Polynomial {
 }
 
 /// "x'(i) is the sum over j of z(i,j) times x(j)", for all rows i.
-fn x_prime(key: &Key, z: &[Vec<Polynomial>]) -> Vec<Polynomial> {
+fn x_prime(key: &WellFormed, z: &[Vec<Polynomial>]) -> Vec<Polynomial> {
     let mut list = Vec::new();
     for row in z {
         let mut sum = Polynomial::zero();
@@ -69,7 +69,7 @@ fn x_prime(key: &Key, z: &[Vec<Polynomial>]) -> Vec<Polynomial> {
 }
 
 /// "Polynomial n + e, for e below m: the sum over i of H(e,i) times x'(i)".
-fn row_polynomial(key: &Key, x_prime: &[Polynomial], e: usize) -> Polynomial {
+fn row_polynomial(key: &WellFormed, x_prime: &[Polynomial], e: usize) -> Polynomial {
     let mut sum = Polynomial::zero();
     for (&h, x_prime) in key.h[e].iter().zip(x_prime) {
         sum = sum + &Polynomial::constant(K::from_small(h)) * x_prime;
@@ -79,7 +79,7 @@ fn row_polynomial(key: &Key, x_prime: &[Polynomial], e: usize) -> Polynomial {
 
 /// "the n + m polynomials": polynomial j for each j below n, then polynomial
 /// n + e for each e below m.
-pub fn polynomials(key: &Key, w: &[Vec<bool>], v: &[Vec<K>]) -> Vec<Polynomial> {
+pub fn polynomials(key: &WellFormed, w: &[Vec<bool>], v: &[Vec<K>]) -> Vec<Polynomial> {
     let z = all_z(key, w, v);
     let x_prime = x_prime(key, &z);
     let columns = (0..key.sizes.n).map(|j| column_polynomial(key, &z, j));
@@ -99,7 +99,7 @@ pub fn z_value(t_row: &[bool], q_row: &[K], delta: K, j: usize) -> K {
 
 /// "The verifier replaces w by t, each factor by q plus that bit times Δ, and
 /// X^d by Δ^d, which gives n + m values, value j from polynomial j."
-pub fn values(key: &Key, t: &[Vec<bool>], q: &[Vec<K>], delta: K) -> Vec<K> {
+pub fn values(key: &WellFormed, t: &[Vec<bool>], q: &[Vec<K>], delta: K) -> Vec<K> {
     let n = key.sizes.n;
     let row = |i: usize| (0..n).map(move |j| z_value(&t[i], &q[i], delta, j));
     let z: Vec<Vec<K>> = (0..n).map(|i| row(i).collect()).collect();

@@ -4,7 +4,7 @@
 
 use crate::check_zero;
 use crate::constraint;
-use crate::key::{bits, elements_of_k, judge_lengths, rows, witness, Key, Sizes};
+use crate::key::{bits, elements_of_k, judge_lengths, rows, witness, Key};
 use crate::large_field::{COORDINATES, K};
 use crate::polynomial::Polynomial;
 use crate::refusal::Refusal;
@@ -60,28 +60,24 @@ pub fn product(a: &[u16], b: &[u16], out: &mut [u16]) -> Result<(), Refusal> {
 /// polynomials, polynomial 0 first".
 #[allow(clippy::too_many_arguments)]
 pub fn constraints(
-    n: usize,
-    m: usize,
-    h: &[u16],
-    x: &[u16],
+    key: Key<'_>,
     positions: &[u8],
     u: &[u8],
     v: &[u16],
     t: &mut [u8],
     polynomials: &mut [u16],
 ) -> Result<(), Refusal> {
-    let sizes = Sizes::judged(n, m)?;
+    let sizes = key.sizes()?;
     let d = sizes.d;
-    judge_lengths(&[
-        (h.len(), sizes.h_words()),
-        (x.len(), sizes.x_words()),
+    let lengths = [
         (positions.len(), sizes.position_bytes()),
         (u.len(), sizes.bit_bytes()),
         (v.len(), sizes.correlation_words()),
         (t.len(), sizes.bit_bytes()),
         (polynomials.len(), sizes.polynomial_words()),
-    ])?;
-    let key = Key::judged(sizes, h, x)?;
+    ];
+    key.judge_lengths(sizes, &lengths)?;
+    let key = key.judged(sizes)?;
     let u = rows(&bits(u)?, d);
     let v = rows(&elements_of_k(v)?, d);
     let w = witness(positions, d)?;
@@ -108,10 +104,7 @@ fn judge_tops(d: usize, polynomials: &[Polynomial]) -> Result<(), Refusal> {
 /// The entry prove: "takes these with r, s and α; writes t and a".
 #[allow(clippy::too_many_arguments)]
 pub fn prove(
-    n: usize,
-    m: usize,
-    h: &[u16],
-    x: &[u16],
+    key: Key<'_>,
     positions: &[u8],
     u: &[u8],
     v: &[u16],
@@ -121,11 +114,9 @@ pub fn prove(
     t: &mut [u8],
     a: &mut [u16],
 ) -> Result<(), Refusal> {
-    let sizes = Sizes::judged(n, m)?;
+    let sizes = key.sizes()?;
     let d = sizes.d;
-    judge_lengths(&[
-        (h.len(), sizes.h_words()),
-        (x.len(), sizes.x_words()),
+    let lengths = [
         (positions.len(), sizes.position_bytes()),
         (u.len(), sizes.bit_bytes()),
         (v.len(), sizes.correlation_words()),
@@ -134,8 +125,9 @@ pub fn prove(
         (alpha.len(), sizes.weight_words()),
         (t.len(), sizes.bit_bytes()),
         (a.len(), sizes.proof_words()),
-    ])?;
-    let key = Key::judged(sizes, h, x)?;
+    ];
+    key.judge_lengths(sizes, &lengths)?;
+    let key = key.judged(sizes)?;
     let u = rows(&bits(u)?, d);
     let v = rows(&elements_of_k(v)?, d);
     let r = elements_of_k(r)?;
@@ -153,26 +145,22 @@ pub fn prove(
 /// The entry values: "takes the key, t, q and Δ; writes n + m values".
 #[allow(clippy::too_many_arguments)]
 pub fn values(
-    n: usize,
-    m: usize,
-    h: &[u16],
-    x: &[u16],
+    key: Key<'_>,
     t: &[u8],
     q: &[u16],
     delta: &[u16],
     values: &mut [u16],
 ) -> Result<(), Refusal> {
-    let sizes = Sizes::judged(n, m)?;
+    let sizes = key.sizes()?;
     let d = sizes.d;
-    judge_lengths(&[
-        (h.len(), sizes.h_words()),
-        (x.len(), sizes.x_words()),
+    let lengths = [
         (t.len(), sizes.bit_bytes()),
         (q.len(), sizes.correlation_words()),
         (delta.len(), sizes.delta_words()),
         (values.len(), sizes.weight_words()),
-    ])?;
-    let key = Key::judged(sizes, h, x)?;
+    ];
+    key.judge_lengths(sizes, &lengths)?;
+    let key = key.judged(sizes)?;
     let t = rows(&bits(t)?, d);
     let q = rows(&elements_of_k(q)?, d);
     let delta = elements_of_k(delta)?[0];
@@ -185,10 +173,7 @@ pub fn values(
 /// Accepted or Rejected".
 #[allow(clippy::too_many_arguments)]
 pub fn verify(
-    n: usize,
-    m: usize,
-    h: &[u16],
-    x: &[u16],
+    key: Key<'_>,
     t: &[u8],
     q: &[u16],
     delta: &[u16],
@@ -196,19 +181,18 @@ pub fn verify(
     alpha: &[u16],
     a: &[u16],
 ) -> Result<Verdict, Refusal> {
-    let sizes = Sizes::judged(n, m)?;
+    let sizes = key.sizes()?;
     let d = sizes.d;
-    judge_lengths(&[
-        (h.len(), sizes.h_words()),
-        (x.len(), sizes.x_words()),
+    let lengths = [
         (t.len(), sizes.bit_bytes()),
         (q.len(), sizes.correlation_words()),
         (delta.len(), sizes.delta_words()),
         (masks.len(), sizes.mask_words()),
         (alpha.len(), sizes.weight_words()),
         (a.len(), sizes.proof_words()),
-    ])?;
-    let key = Key::judged(sizes, h, x)?;
+    ];
+    key.judge_lengths(sizes, &lengths)?;
+    let key = key.judged(sizes)?;
     let t = rows(&bits(t)?, d);
     let q = rows(&elements_of_k(q)?, d);
     let delta = elements_of_k(delta)?[0];

@@ -88,10 +88,7 @@ impl Outputs {
 fn constraints_of(sample: &Sample) -> (Result<(), Refusal>, Outputs) {
     let mut out = Outputs::of(sample);
     let answer = constraints(
-        sample.n,
-        sample.m,
-        &sample.h,
-        &sample.x,
+        sample.key(),
         &sample.positions,
         &sample.u,
         &sample.v,
@@ -105,10 +102,7 @@ fn constraints_of(sample: &Sample) -> (Result<(), Refusal>, Outputs) {
 fn prove_of(sample: &Sample) -> (Result<(), Refusal>, Outputs) {
     let mut out = Outputs::of(sample);
     let answer = prove(
-        sample.n,
-        sample.m,
-        &sample.h,
-        &sample.x,
+        sample.key(),
         &sample.positions,
         &sample.u,
         &sample.v,
@@ -124,26 +118,14 @@ fn prove_of(sample: &Sample) -> (Result<(), Refusal>, Outputs) {
 /// The answer of values for this t, and its outputs.
 fn values_of(sample: &Sample, t: &[u8]) -> (Result<(), Refusal>, Outputs) {
     let mut out = Outputs::of(sample);
-    let answer = values(
-        sample.n,
-        sample.m,
-        &sample.h,
-        &sample.x,
-        t,
-        &sample.q,
-        &sample.delta,
-        &mut out.values,
-    );
+    let answer = values(sample.key(), t, &sample.q, &sample.delta, &mut out.values);
     (answer, out)
 }
 
 /// The answer of verify for this t and this a, as text.
 fn verify_of(sample: &Sample, t: &[u8], a: &[u16]) -> String {
     let verdict = verify(
-        sample.n,
-        sample.m,
-        &sample.h,
-        &sample.x,
+        sample.key(),
         t,
         &sample.q,
         &sample.delta,

@@ -107,29 +107,57 @@ pub fn digits(number: usize, d: usize) -> Vec<bool> {
     lowest_first
 }
 
-/// "The key is n, m, H and x".
+/// "The key is n, m, H and x", as it is lent.
+#[derive(Clone, Copy, Debug)]
+pub struct Key<'a> {
+    /// The size n.
+    pub n: usize,
+    /// The size m.
+    pub m: usize,
+    /// H, row after row.
+    pub h: &'a [u16],
+    /// The vector x.
+    pub x: &'a [u16],
+}
+
+impl Key<'_> {
+    /// The place "sizes": 1, then 2.
+    pub fn sizes(self) -> Result<Sizes, Refusal> {
+        Sizes::judged(self.n, self.m)
+    }
+
+    /// The place "slices" for the key and further slices, each with its lent
+    /// length and the stated one.
+    pub fn judge_lengths(self, sizes: Sizes, others: &[(usize, usize)]) -> Result<(), Refusal> {
+        judge_lengths(&[
+            (self.h.len(), sizes.h_words()),
+            (self.x.len(), sizes.x_words()),
+        ])?;
+        judge_lengths(others)
+    }
+
+    /// The place "key": 4 "an element of H or x is above 2047". Sizes and
+    /// lengths are judged before; H comes "row after row".
+    pub fn judged(self, sizes: Sizes) -> Result<WellFormed, Refusal> {
+        let h = elements_of_f(self.h)?;
+        let x = elements_of_f(self.x)?;
+        Ok(WellFormed {
+            sizes,
+            h: rows(&h, sizes.n),
+            x,
+        })
+    }
+}
+
+/// A key that "is well formed": "none of refusals 1 to 4 applies to it".
 #[derive(Clone, Debug)]
-pub struct Key {
+pub struct WellFormed {
     /// n, m and d.
     pub sizes: Sizes,
     /// The m rows of H.
     pub h: Vec<Vec<F>>,
     /// The vector x.
     pub x: Vec<F>,
-}
-
-impl Key {
-    /// The place "key": 4 "an element of H or x is above 2047". The lengths
-    /// of h and x are judged before; H comes "row after row".
-    pub fn judged(sizes: Sizes, h: &[u16], x: &[u16]) -> Result<Key, Refusal> {
-        let h = elements_of_f(h)?;
-        let x = elements_of_f(x)?;
-        Ok(Key {
-            sizes,
-            h: rows(&h, sizes.n),
-            x,
-        })
-    }
 }
 
 /// The place "slices": 3 "a lent slice isn't of its stated length". Each pair

@@ -39,6 +39,7 @@ pub mod small_field;
 pub mod vectors;
 
 pub use entries::{constraints, product, prove, sum, values, verify, Verdict};
+pub use key::Key;
 pub use package::{
     field, field_range, judge_check_file, judge_package, read_check_file, read_package,
     write_check_file, write_package, Contents, Place, Refused,

@@ -1,6 +1,6 @@
 //! The package and the check file: readers, and writers for test files.
 
-use crate::key::{bits, elements_of_f, elements_of_k, Sizes};
+use crate::key::{bits, elements_of_f, elements_of_k, Key, Sizes};
 use crate::refusal::Refusal;
 use std::ops::Range;
 
@@ -320,19 +320,11 @@ fn word_bytes(words: &[u16]) -> Vec<u8> {
 /// The fields of a package in their order; nothing is judged. n and m are
 /// written in one byte each.
 #[allow(clippy::too_many_arguments)]
-pub fn package_fields(
-    n: usize,
-    m: usize,
-    h: &[u16],
-    x: &[u16],
-    serial: u16,
-    t: &[u8],
-    a: &[u16],
-) -> Vec<WrittenField> {
+pub fn package_fields(key: Key<'_>, serial: u16, t: &[u8], a: &[u16]) -> Vec<WrittenField> {
     vec![
-        WrittenField::new(0x01, vec![n as u8, m as u8]),
-        WrittenField::new(0x02, word_bytes(h)),
-        WrittenField::new(0x03, word_bytes(x)),
+        WrittenField::new(0x01, vec![key.n as u8, key.m as u8]),
+        WrittenField::new(0x02, word_bytes(key.h)),
+        WrittenField::new(0x03, word_bytes(key.x)),
         WrittenField::new(0x05, word_bytes(&[serial])),
         WrittenField::new(0x06, t.to_vec()),
         WrittenField::new(0x07, word_bytes(a)),
@@ -351,25 +343,14 @@ pub fn check_fields(q: &[u16], masks: &[u16], delta: &[u16], alpha: &[u16]) -> V
 
 /// Writes a package by concatenation; nothing is judged.
 #[allow(clippy::too_many_arguments)]
-pub fn write_package(
-    n: usize,
-    m: usize,
-    h: &[u16],
-    x: &[u16],
-    serial: u16,
-    t: &[u8],
-    a: &[u16],
-) -> Vec<u8> {
-    join(&package_fields(n, m, h, x, serial, t, a))
+pub fn write_package(key: Key<'_>, serial: u16, t: &[u8], a: &[u16]) -> Vec<u8> {
+    join(&package_fields(key, serial, t, a))
 }
 
 /// Writes a check file by concatenation; nothing is judged.
 #[allow(clippy::too_many_arguments)]
 pub fn write_check_file(
-    n: usize,
-    m: usize,
-    h: &[u16],
-    x: &[u16],
+    key: Key<'_>,
     serial: u16,
     t: &[u8],
     a: &[u16],
@@ -378,7 +359,7 @@ pub fn write_check_file(
     delta: &[u16],
     alpha: &[u16],
 ) -> Vec<u8> {
-    let mut bytes = write_package(n, m, h, x, serial, t, a);
+    let mut bytes = write_package(key, serial, t, a);
     bytes.extend(join(&check_fields(q, masks, delta, alpha)));
     bytes
 }

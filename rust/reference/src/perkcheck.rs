@@ -1,6 +1,7 @@
 //! The program `perkcheck`, from the bytes of a check file to its line.
 
 use crate::entries::{verify, Verdict};
+use crate::key::Key;
 use crate::package::{check_file_field, read_check_file, words, Contents};
 use crate::refusal::Refusal;
 
@@ -10,18 +11,16 @@ pub const LIMIT: usize = 32_768;
 /// Reads a check file, then runs verify on its fields.
 pub fn check(bytes: &[u8]) -> Result<(Contents, Verdict), Refusal> {
     let contents = read_check_file(bytes)?;
-    let verdict = verify(
-        contents.n,
-        contents.m,
-        &words(check_file_field(bytes, 0x02)),
-        &words(check_file_field(bytes, 0x03)),
-        check_file_field(bytes, 0x06),
-        &words(check_file_field(bytes, 0x11)),
-        &words(check_file_field(bytes, 0x13)),
-        &words(check_file_field(bytes, 0x12)),
-        &words(check_file_field(bytes, 0x14)),
-        &words(check_file_field(bytes, 0x07)),
-    )?;
+    let words = |tag| words(check_file_field(bytes, tag));
+    let key = Key {
+        n: contents.n,
+        m: contents.m,
+        h: &words(0x02),
+        x: &words(0x03),
+    };
+    let t = check_file_field(bytes, 0x06);
+    let [q, delta, masks, alpha, a] = [0x11, 0x13, 0x12, 0x14, 0x07].map(words);
+    let verdict = verify(key, t, &q, &delta, &masks, &alpha, &a)?;
     Ok((contents, verdict))
 }
 

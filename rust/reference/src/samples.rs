@@ -1,7 +1,7 @@
 //! Seeded test data: a generator of numbers, and keys with material.
 
 use crate::entries::prove;
-use crate::key::{elements_of_k, Sizes};
+use crate::key::{elements_of_k, Key, Sizes};
 use crate::large_field::{Large, COORDINATES, K};
 use crate::level::FIRST;
 use crate::package::{check_fields, join, package_fields, WrittenField};
@@ -258,6 +258,16 @@ impl Sample {
         sample
     }
 
+    /// The key.
+    pub fn key(&self) -> Key<'_> {
+        Key {
+            n: self.n,
+            m: self.m,
+            h: &self.h,
+            x: &self.x,
+        }
+    }
+
     /// Sets q and the mask numbers to the honest ones.
     pub fn make_honest(&mut self) {
         self.q = honest_q(&self.u, &self.v, &self.delta).expect("coordinates up to 2047");
@@ -269,10 +279,7 @@ impl Sample {
         let mut t = vec![0; self.n * self.d];
         let mut a = vec![0; COORDINATES * self.d];
         prove(
-            self.n,
-            self.m,
-            &self.h,
-            &self.x,
+            self.key(),
             &self.positions,
             &self.u,
             &self.v,
@@ -288,7 +295,7 @@ impl Sample {
     /// The ten fields of the check file with the proof of this sample.
     pub fn fields(&self) -> Result<Vec<WrittenField>, Refusal> {
         let (t, a) = self.proof()?;
-        let mut fields = package_fields(self.n, self.m, &self.h, &self.x, self.serial, &t, &a);
+        let mut fields = package_fields(self.key(), self.serial, &t, &a);
         fields.extend(check_fields(&self.q, &self.masks, &self.delta, &self.alpha));
         Ok(fields)
     }

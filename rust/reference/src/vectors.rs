@@ -110,10 +110,7 @@ fn modelled(sample: &Sample, positions: &[u8]) -> (Vec<u8>, Vec<u16>, Vec<u16>) 
     let mut polynomials = vec![0; sizes.polynomial_words()];
     let mut list = vec![0; sizes.weight_words()];
     constraints(
-        sample.n,
-        sample.m,
-        &sample.h,
-        &sample.x,
+        sample.key(),
         positions,
         &sample.u,
         &sample.v,
@@ -121,17 +118,8 @@ fn modelled(sample: &Sample, positions: &[u8]) -> (Vec<u8>, Vec<u16>, Vec<u16>) 
         &mut polynomials,
     )
     .expect("material that is not refused");
-    values(
-        sample.n,
-        sample.m,
-        &sample.h,
-        &sample.x,
-        &t,
-        &sample.q,
-        &sample.delta,
-        &mut list,
-    )
-    .expect("material that is not refused");
+    values(sample.key(), &t, &sample.q, &sample.delta, &mut list)
+        .expect("material that is not refused");
     (t, polynomials, list)
 }
 

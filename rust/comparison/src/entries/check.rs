@@ -6,7 +6,7 @@ use super::readers::key_a;
 use super::{keyed, DONE, REJECTED};
 use crate::case::{Case, Entry, Group, Table};
 use crate::lent::Lent;
-use crate::perk;
+use crate::library;
 use reference::package::{join, WrittenField};
 use reference::samples::{Generator, Sample};
 use reference::Verdict;
@@ -38,7 +38,7 @@ pub const CHECK: Entry = Entry {
     outputs: &[],
     done: &[DONE, REJECTED],
     refusals: files::REFUSALS,
-    library: |_, inputs, _| perk::check(inputs[0].bytes()),
+    library: |_, inputs, _| library::check(inputs[0].bytes()),
     reference: |_, inputs, _| match reference::check(inputs[0].bytes()) {
         Ok((_, Verdict::Accepted)) => DONE,
         Ok((_, Verdict::Rejected)) => REJECTED,

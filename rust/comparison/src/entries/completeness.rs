@@ -14,7 +14,7 @@ use super::witnesses::{self, Witness};
 use super::{DONE, REJECTED, TOP};
 use crate::case::{Case, Entry, Group};
 use crate::lent::Lent;
-use crate::perk;
+use crate::library;
 use reference::large_field::COORDINATES;
 use reference::samples::{honest_masks, honest_q, solves, Generator, Sample};
 
@@ -62,7 +62,7 @@ const REFUSED: u32 = 100;
 
 /// Calls prove of the library.
 fn prove(numbers: &[usize], inputs: &[Lent], outputs: &mut [Lent]) -> u32 {
-    perk::prove::with(perk::prove, &numbers[..2], &inputs[..DELTA], outputs)
+    library::prove::with(library::prove, &numbers[..2], &inputs[..DELTA], outputs)
 }
 
 /// The side of the library.
@@ -79,11 +79,8 @@ fn prove_and_verify(numbers: &[usize], inputs: &[Lent], outputs: &mut [Lent]) ->
     if let Some(index) = numbers[2].checked_sub(1) {
         a[index] ^= 1;
     }
-    let verdict = perk::verify(
-        numbers[0],
-        numbers[1],
-        words(H),
-        words(X),
+    let verdict = library::verify(
+        keyed::key(numbers, inputs),
         outputs[0].bytes(),
         &q,
         delta,

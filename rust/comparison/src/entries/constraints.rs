@@ -5,7 +5,7 @@ use super::rounds::{self, Round};
 use super::witnesses;
 use super::{number, DONE};
 use crate::case::{Case, Entry, Group, Stated};
-use crate::perk;
+use crate::library;
 use reference::constraint::masked_witness;
 use reference::key::{bits, rows, witness, Sizes};
 use reference::large_field::COORDINATES;
@@ -43,17 +43,17 @@ impl Keyed for Values {
 /// The entry constraints.
 pub const CONSTRAINTS: Entry = Entry {
     name: "constraints",
-    numbers: perk::constraints::NUMBERS,
-    inputs: perk::constraints::INPUTS,
-    outputs: perk::constraints::OUTPUTS,
+    numbers: library::constraints::NUMBERS,
+    inputs: library::constraints::INPUTS,
+    outputs: library::constraints::OUTPUTS,
     done: &[DONE],
     refusals: &[1, 2, 3, 4, 5, 6, 7],
     library: |numbers, inputs, outputs| {
-        perk::constraints::with(perk::constraints, numbers, inputs, outputs)
+        library::constraints::with(library::constraints, numbers, inputs, outputs)
     },
     reference: |numbers, inputs, outputs| {
         let entry = reference::constraints;
-        number(perk::constraints::with(entry, numbers, inputs, outputs))
+        number(library::constraints::with(entry, numbers, inputs, outputs))
     },
     table: None,
     groups: &[
@@ -78,15 +78,17 @@ pub const CONSTRAINTS: Entry = Entry {
 /// The entry values.
 pub const VALUES: Entry = Entry {
     name: "values",
-    numbers: perk::values::NUMBERS,
-    inputs: perk::values::INPUTS,
-    outputs: perk::values::OUTPUTS,
+    numbers: library::values::NUMBERS,
+    inputs: library::values::INPUTS,
+    outputs: library::values::OUTPUTS,
     done: &[DONE],
     refusals: &[1, 2, 3, 4, 5, 6],
-    library: |numbers, inputs, outputs| perk::values::with(perk::values, numbers, inputs, outputs),
+    library: |numbers, inputs, outputs| {
+        library::values::with(library::values, numbers, inputs, outputs)
+    },
     reference: |numbers, inputs, outputs| {
         let entry = reference::values;
-        number(perk::values::with(entry, numbers, inputs, outputs))
+        number(library::values::with(entry, numbers, inputs, outputs))
     },
     table: None,
     groups: &[

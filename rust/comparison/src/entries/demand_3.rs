@@ -14,7 +14,7 @@ use super::witnesses::{self, Witness};
 use super::{DONE, TOP};
 use crate::case::{Case, Entry, Group};
 use crate::lent::Lent;
-use crate::perk;
+use crate::library;
 use reference::key::{elements_of_k, rows};
 use reference::large_field::K;
 use reference::polynomial::Polynomial;
@@ -66,11 +66,8 @@ fn constraints(
     polynomials: &mut Lent,
 ) -> Result<Vec<Vec<K>>, u32> {
     let sizes = keyed::sizes(numbers[0], numbers[1]);
-    let answer = perk::constraints(
-        sizes.n,
-        sizes.m,
-        inputs[H].words(),
-        inputs[X].words(),
+    let answer = library::constraints(
+        keyed::key(numbers, inputs),
         inputs[POSITIONS].bytes(),
         inputs[U].bytes(),
         inputs[V].words(),
@@ -96,11 +93,8 @@ fn values_and_tops(numbers: &[usize], inputs: &[Lent], outputs: &mut [Lent]) -> 
         Ok(written) => written,
         Err(refusal) => return REFUSED + refusal,
     };
-    let answer = perk::values(
-        numbers[0],
-        numbers[1],
-        inputs[H].words(),
-        inputs[X].words(),
+    let answer = library::values(
+        keyed::key(numbers, inputs),
         t.bytes(),
         &q,
         delta,

@@ -3,7 +3,7 @@
 use super::{number, DONE};
 use crate::case::{Call, Case, Entry, Group, Stated};
 use crate::lent::Lent;
-use crate::perk;
+use crate::library;
 use reference::large_field::{COORDINATES, K};
 use reference::samples::Generator;
 use reference::small_field::F;
@@ -19,7 +19,7 @@ pub const SUM: Entry = entry(
     "sum",
     |_, inputs, outputs| {
         let (a, b) = operands(inputs);
-        perk::sum(a, b, outputs[0].words_mut())
+        library::sum(a, b, outputs[0].words_mut())
     },
     |_, inputs, outputs| {
         let (a, b) = operands(inputs);
@@ -41,7 +41,7 @@ pub const PRODUCT: Entry = entry(
     "product",
     |_, inputs, outputs| {
         let (a, b) = operands(inputs);
-        perk::product(a, b, outputs[0].words_mut())
+        library::product(a, b, outputs[0].words_mut())
     },
     |_, inputs, outputs| {
         let (a, b) = operands(inputs);

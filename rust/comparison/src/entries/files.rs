@@ -7,7 +7,7 @@ use crate::lent::Lent;
 use reference::package::{check_fields, join, package_fields, WrittenField, CHECK_FILE_TAGS};
 use reference::samples::Generator;
 use reference::small_field::F;
-use reference::{Contents, Place, Refused};
+use reference::{Contents, Key, Place, Refused};
 
 /// The fields of a package.
 pub const PACKAGE: usize = 6;
@@ -101,7 +101,8 @@ pub fn any_fields(n: usize, m: usize, generator: &mut Generator) -> Vec<WrittenF
     .map(|(kind, len)| keyed::WORDS[kind](len, generator));
     let t = keyed::BITS[kinds[7]](sizes.bit_bytes(), generator);
     let serial = any_serial(generator);
-    let mut fields = package_fields(n, m, &h, &x, serial, &t, &a);
+    let key = Key { n, m, h: &h, x: &x };
+    let mut fields = package_fields(key, serial, &t, &a);
     fields.extend(check_fields(&q, &masks, &delta, &alpha));
     fields
 }

@@ -8,7 +8,7 @@ use reference::key::{number_of_digits, Sizes};
 use reference::large_field::{COORDINATES, K};
 use reference::samples::Generator;
 use reference::small_field::F;
-use reference::Refusal;
+use reference::{Key, Refusal};
 use std::collections::BTreeSet;
 
 /// What the elements of a slice are.
@@ -114,6 +114,16 @@ pub const T: usize = 2;
 pub const Q: usize = 3;
 /// The challenge.
 pub const DELTA: usize = 4;
+
+/// The key of a case.
+pub fn key<'a>(numbers: &[usize], inputs: &'a [Lent]) -> Key<'a> {
+    Key {
+        n: numbers[0],
+        m: numbers[1],
+        h: inputs[H].words(),
+        x: inputs[X].words(),
+    }
+}
 
 /// Sets the bytes of an input.
 pub fn set_bytes(case: &mut Case, input: usize, bytes: &[u8]) {

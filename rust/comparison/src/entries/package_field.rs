@@ -9,7 +9,7 @@ use super::files::{self, Reader, HEAD, PACKAGE};
 use super::{keyed, DONE};
 use crate::case::{Case, Entry, Group, Stated, Table};
 use crate::lent::Lent;
-use crate::perk;
+use crate::library;
 use reference::package::{join, WrittenField, PACKAGE_TAGS};
 use reference::samples::Generator;
 
@@ -45,7 +45,7 @@ pub const FIELD: Entry = Entry {
     refusals: &[],
     library: |numbers, inputs, outputs| {
         let bytes = inputs[0].bytes();
-        let length = perk::field(bytes, numbers[0] as u8, outputs[0].size_mut());
+        let length = library::field(bytes, numbers[0] as u8, outputs[0].size_mut());
         *outputs[1].size_mut() = length;
         copied(bytes, outputs)
     },

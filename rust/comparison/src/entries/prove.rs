@@ -5,7 +5,7 @@ use super::rounds;
 use super::witnesses::{self, quotient, Witness};
 use super::{number, DONE, TOP};
 use crate::case::{Case, Entry, Group, Least, Stated};
-use crate::perk;
+use crate::library;
 use reference::key::Sizes;
 use reference::large_field::COORDINATES;
 use reference::samples::{in_order, Generator, Sample};
@@ -51,15 +51,17 @@ impl Keyed for Unsolved {
 /// The entry prove.
 pub const PROVE: Entry = Entry {
     name: "prove",
-    numbers: perk::prove::NUMBERS,
-    inputs: perk::prove::INPUTS,
-    outputs: perk::prove::OUTPUTS,
+    numbers: library::prove::NUMBERS,
+    inputs: library::prove::INPUTS,
+    outputs: library::prove::OUTPUTS,
     done: &[DONE],
     refusals: &[1, 2, 3, 4, 5, 6, 7, 8],
-    library: |numbers, inputs, outputs| perk::prove::with(perk::prove, numbers, inputs, outputs),
+    library: |numbers, inputs, outputs| {
+        library::prove::with(library::prove, numbers, inputs, outputs)
+    },
     reference: |numbers, inputs, outputs| {
         let entry = reference::prove;
-        number(perk::prove::with(entry, numbers, inputs, outputs))
+        number(library::prove::with(entry, numbers, inputs, outputs))
     },
     table: None,
     groups: &[

@@ -4,7 +4,7 @@ use super::files::{self, Reader, CHECK_FILE, PACKAGE};
 use super::{number, DONE};
 use crate::case::{Call, Case, Entry, Group, Stated, Table};
 use crate::lent::Lent;
-use crate::perk;
+use crate::library;
 use reference::package::{join, CHECK_FILE_TAGS};
 use reference::samples::{Generator, Sample};
 use reference::{Contents, Refusal};
@@ -36,7 +36,7 @@ impl Reader for ReadCheckFile {
 /// The entry read package.
 pub const READ_PACKAGE: Entry = entry(
     "read package",
-    |_, inputs, outputs| library(perk::read_package, inputs, outputs),
+    |_, inputs, outputs| library(library::read_package, inputs, outputs),
     |_, inputs, outputs| written(reference::read_package(inputs[0].bytes()), outputs),
     Table {
         of: "field",
@@ -64,7 +64,7 @@ pub const READ_PACKAGE: Entry = entry(
 /// The entry read check file.
 pub const READ_CHECK_FILE: Entry = entry(
     "read check file",
-    |_, inputs, outputs| library(perk::read_check_file, inputs, outputs),
+    |_, inputs, outputs| library(library::read_check_file, inputs, outputs),
     |_, inputs, outputs| written(reference::read_check_file(inputs[0].bytes()), outputs),
     Table {
         of: "field",

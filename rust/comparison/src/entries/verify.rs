@@ -6,7 +6,7 @@ use super::witnesses;
 use super::{DONE, REJECTED};
 use crate::case::{Case, Entry, Group};
 use crate::lent::Lent;
-use crate::perk;
+use crate::library;
 use reference::key::{elements_of_k, Sizes};
 use reference::large_field::{COORDINATES, K};
 use reference::samples::{Generator, Sample};
@@ -42,15 +42,17 @@ impl Keyed for Verify {
 /// The entry verify.
 pub const VERIFY: Entry = Entry {
     name: "verify",
-    numbers: perk::verify::NUMBERS,
-    inputs: perk::verify::INPUTS,
-    outputs: perk::verify::OUTPUTS,
+    numbers: library::verify::NUMBERS,
+    inputs: library::verify::INPUTS,
+    outputs: library::verify::OUTPUTS,
     done: &[DONE, REJECTED],
     refusals: &[1, 2, 3, 4, 5, 6],
-    library: |numbers, inputs, outputs| perk::verify::with(perk::verify, numbers, inputs, outputs),
+    library: |numbers, inputs, outputs| {
+        library::verify::with(library::verify, numbers, inputs, outputs)
+    },
     reference: |numbers, inputs, outputs| {
         let entry = reference::verify;
-        verdict(perk::verify::with(entry, numbers, inputs, outputs))
+        verdict(library::verify::with(entry, numbers, inputs, outputs))
     },
     table: None,
     groups: &[
@@ -147,7 +149,7 @@ fn balanced(mut case: Case) -> Case {
         &mut Generator::new(0),
     )];
     let inputs = &case.inputs[..MASKS];
-    perk::values::with(reference::values, &case.numbers, inputs, &mut values)
+    library::values::with(reference::values, &case.numbers, inputs, &mut values)
         .expect("no refusal applies");
 
     let delta = elements(&case.inputs[DELTA])[0];

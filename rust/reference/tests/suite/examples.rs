@@ -132,10 +132,7 @@ fn example_12_positions_0_1_4() {
     let mut t = [9; 6];
     let mut polynomials = [9; 12 * 3 * 4];
     let answer = constraints(
-        3,
-        1,
-        &sample.h,
-        &sample.x,
+        sample.key(),
         &sample.positions,
         &sample.u,
         &sample.v,

@@ -39,10 +39,7 @@ fn constraints_of(sample: &Sample) -> (Vec<u8>, Vec<Vec<K>>) {
     let mut t = vec![9; n * d];
     let mut polynomials = vec![9; COORDINATES * (d + 1) * (n + m)];
     reference::constraints(
-        n,
-        m,
-        &sample.h,
-        &sample.x,
+        sample.key(),
         &sample.positions,
         &sample.u,
         &sample.v,
@@ -58,27 +55,15 @@ fn constraints_of(sample: &Sample) -> (Vec<u8>, Vec<Vec<K>>) {
 fn values_of(sample: &Sample, t: &[u8]) -> Vec<K> {
     let Sample { n, m, .. } = *sample;
     let mut values = vec![9; COORDINATES * (n + m)];
-    reference::values(
-        n,
-        m,
-        &sample.h,
-        &sample.x,
-        t,
-        &sample.q,
-        &sample.delta,
-        &mut values,
-    )
-    .expect("no refusal applies");
+    reference::values(sample.key(), t, &sample.q, &sample.delta, &mut values)
+        .expect("no refusal applies");
     large(&values)
 }
 
 /// What the entry verify answers for this t and this a.
 fn verdict_of(sample: &Sample, t: &[u8], a: &[u16]) -> reference::Verdict {
     reference::verify(
-        sample.n,
-        sample.m,
-        &sample.h,
-        &sample.x,
+        sample.key(),
         t,
         &sample.q,
         &sample.delta,

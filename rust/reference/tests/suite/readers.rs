@@ -168,13 +168,10 @@ fn every_written_file_is_read_back() {
             m,
             serial: u32::from(serial),
         };
-        let package = write_package(n, m, &sample.h, &sample.x, serial, &t, &a);
+        let package = write_package(sample.key(), serial, &t, &a);
         assert_eq!(read_package(&package), Ok(contents));
         let file = write_check_file(
-            n,
-            m,
-            &sample.h,
-            &sample.x,
+            sample.key(),
             serial,
             &t,
             &a,

@@ -3,7 +3,7 @@
 
 use reference::large_field::COORDINATES;
 use reference::samples::{Generator, Sample};
-use reference::Refusal;
+use reference::{Key, Refusal};
 use std::collections::BTreeSet;
 
 #[derive(Clone, Copy, Debug, PartialEq, Eq)]
@@ -112,7 +112,11 @@ impl Call {
 
     fn run(&mut self, entry: Entry) -> Result<(), Refusal> {
         let Call { n, m, .. } = *self;
-        let Sample { h, x, .. } = &self.sample;
+        let key = Key {
+            n,
+            m,
+            ..self.sample.key()
+        };
         let Sample {
             positions,
             u,
@@ -127,10 +131,7 @@ impl Call {
         } = &self.sample;
         match entry {
             Entry::Constraints => reference::constraints(
-                n,
-                m,
-                h,
-                x,
+                key,
                 positions,
                 u,
                 v,
@@ -138,10 +139,7 @@ impl Call {
                 &mut self.polynomials_out,
             ),
             Entry::Prove => reference::prove(
-                n,
-                m,
-                h,
-                x,
+                key,
                 positions,
                 u,
                 v,
@@ -151,9 +149,9 @@ impl Call {
                 &mut self.t_out,
                 &mut self.a_out,
             ),
-            Entry::Values => reference::values(n, m, h, x, &self.t, q, delta, &mut self.values_out),
+            Entry::Values => reference::values(key, &self.t, q, delta, &mut self.values_out),
             Entry::Verify => {
-                reference::verify(n, m, h, x, &self.t, q, delta, masks, alpha, &self.a).map(|_| ())
+                reference::verify(key, &self.t, q, delta, masks, alpha, &self.a).map(|_| ())
             }
         }
     }

@@ -1,0 +1,201 @@
+//! The C functions of libperk.a, as functions on slices. Each answers 0 when
+//! it is done, else the number of the refusal; verify and check answer 255 when
+//! they reject. The field of a package answers a length.
+//!
+//! Beside each function that takes a key stands a module of its name, with the
+//! names of what it takes, and with a call of any implementation on the slices
+//! of a case.
+//!
+//! With the feature `other`, the module `other` has the same functions of
+//! another build of the library, linked beside it, whose C names start with
+//! `other_`.
+#![allow(unsafe_code)]
+
+use perk::c;
+use reference::Key;
+
+/// Functions on slices for C functions that take two elements and write one.
+macro_rules! on_elements {
+    ($(
+        $(#[$about:meta])*
+        $name:ident = $function:ident;
+    )*) => {$(
+        $(#[$about])*
+        #[inline]
+        pub fn $name(a: &[u16], b: &[u16], out: &mut [u16]) -> u32 {
+            // SAFETY: the slices are valid for their lengths, and the output
+            // overlaps no other.
+            unsafe {
+                c::$function(
+                    a.as_ptr(),
+                    a.len(),
+                    b.as_ptr(),
+                    b.len(),
+                    out.as_mut_ptr(),
+                    out.len(),
+                )
+            }
+        }
+    )*};
+}
+
+/// Functions on slices for C functions that take a key, then slices that they
+/// read, then slices that they write.
+macro_rules! on_keys {
+    ($(
+        $(#[$about:meta])*
+        $name:ident = $function:ident,
+        inputs ($($input:ident: $read:ty),*),
+        outputs ($($output:ident: $written:ty),*);
+    )*) => {$(
+        $(#[$about])*
+        #[allow(clippy::too_many_arguments)]
+        #[inline]
+        pub fn $name(
+            key: Key<'_>,
+            $($input: &[$read],)*
+            $($output: &mut [$written],)*
+        ) -> u32 {
+            let Key { n, m, h, x } = key;
+            // SAFETY: the slices are valid for their lengths, and no output
+            // overlaps another slice.
+            unsafe {
+                c::$function(
+                    n,
+                    m,
+                    h.as_ptr(),
+                    h.len(),
+                    x.as_ptr(),
+                    x.len(),
+                    $($input.as_ptr(), $input.len(),)*
+                    $($output.as_mut_ptr(), $output.len(),)*
+                )
+            }
+        }
+
+        $(#[$about])*
+        pub mod $name {
+            use crate::lent::{Element, Lent};
+            use reference::Key;
+
+            /// The names of the numbers.
+            pub const NUMBERS: &[&str] = &["n", "m"];
+            /// The names of the slices that it reads.
+            pub const INPUTS: &[&str] = &["h", "x", $(stringify!($input)),*];
+            /// The names of the slices that it writes.
+            pub const OUTPUTS: &[&str] = &[$(stringify!($output)),*];
+
+            /// Calls an implementation with lent slices.
+            pub fn with<A>(
+                entry: fn(Key<'_>, $(&[$read],)* $(&mut [$written],)*) -> A,
+                numbers: &[usize],
+                inputs: &[Lent],
+                outputs: &mut [Lent],
+            ) -> A {
+                let (&[n, m], [h, x, $($input),*], [$($output),*]) = (numbers, inputs, outputs)
+                else {
+                    panic!("other slices than those of the entry");
+                };
+                let key = Key { n, m, h: h.words(), x: x.words() };
+                entry(
+                    key,
+                    $(<$read>::of($input),)*
+                    $(<$written>::of_mut($output),)*
+                )
+            }
+        }
+    )*};
+}
+
+/// Functions on slices for C functions that read the bytes of a file and write
+/// n, m and the serial.
+macro_rules! readers {
+    ($(
+        $(#[$about:meta])*
+        $name:ident = $function:ident;
+    )*) => {$(
+        $(#[$about])*
+        pub fn $name(bytes: &[u8], n: &mut u32, m: &mut u32, serial: &mut u32) -> u32 {
+            // SAFETY: the slice is valid for its length, and the numbers don't
+            // overlap it or one another.
+            unsafe { c::$function(bytes.as_ptr(), bytes.len(), n, m, serial) }
+        }
+    )*};
+}
+
+/// The functions of one build of the library, which the module `c` declares.
+macro_rules! build {
+    () => {
+        on_elements! {
+            /// The entry sum in K.
+            sum = perk_sum;
+
+            /// The entry product in K.
+            product = perk_product;
+        }
+
+        on_keys! {
+            /// The entry constraints.
+            constraints = perk_constraints,
+            inputs (positions: u8, u: u8, v: u16),
+            outputs (t: u8, polynomials: u16);
+
+            /// The entry prove.
+            prove = perk_prove,
+            inputs (positions: u8, u: u8, v: u16, r: u16, s: u16, alpha: u16),
+            outputs (t: u8, a: u16);
+
+            /// The entry values.
+            values = perk_values,
+            inputs (t: u8, q: u16, delta: u16),
+            outputs (values: u16);
+
+            /// The entry verify.
+            verify = perk_verify,
+            inputs (t: u8, q: u16, delta: u16, masks: u16, alpha: u16, a: u16),
+            outputs ();
+        }
+
+        readers! {
+            /// The entry read package.
+            read_package = perk_read_package;
+
+            /// The entry read check file.
+            read_check_file = perk_read_check_file;
+        }
+
+        /// The entry field of a package: writes where the part starts in the
+        /// bytes, and answers its length.
+        pub fn field(bytes: &[u8], tag: u8, start: &mut usize) -> usize {
+            // SAFETY: the slice is valid for its length, and the number doesn't
+            // overlap it.
+            unsafe { c::perk_field(bytes.as_ptr(), bytes.len(), tag, start) }
+        }
+
+        /// Reads a check file and verifies it.
+        pub fn check(bytes: &[u8]) -> u32 {
+            // SAFETY: the slice is valid for its length.
+            unsafe { c::perk_check(bytes.as_ptr(), bytes.len()) }
+        }
+    };
+}
+
+build!();
+
+/// The functions of another build.
+#[cfg(feature = "other")]
+pub mod other {
+    use reference::Key;
+
+    /// Its C functions. The directory of libperk_other.a is the linker's to
+    /// find: bin/bench names it.
+    #[allow(missing_docs)]
+    mod c {
+        #[link(name = "perk_other", kind = "static")]
+        extern "C" {}
+
+        perk::declarations!("other_");
+    }
+
+    build!();
+}

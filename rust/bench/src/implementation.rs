@@ -1,6 +1,6 @@
 //! The implementations that are compared, each by the functions of its entries.
 
-use crate::{of_reference, rust};
+use crate::of_reference;
 use comparison::library;
 use reference::samples::Sample;
 
@@ -121,9 +121,9 @@ pub const ALL: &[Implementation] = &[
     },
     Implementation {
         name: "Rust",
-        sum: rust::sum,
-        product: rust::product,
-        keyed: keyed!(rust),
+        sum: packed::sum,
+        product: packed::product,
+        keyed: keyed!(packed),
         filed: None,
         counted: true,
     },

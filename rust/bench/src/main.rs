@@ -16,17 +16,12 @@
 
 mod agree;
 mod cases;
-mod checks;
 mod count;
-mod fold;
 mod implementation;
 mod measure;
 mod of_reference;
-mod packed;
 mod process;
 mod products;
-mod rows;
-mod rust;
 mod svg;
 mod table;
 

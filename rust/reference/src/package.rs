@@ -4,12 +4,47 @@ use crate::key::{bits, elements_of_f, elements_of_k, Key, Sizes};
 use crate::refusal::Refusal;
 use std::ops::Range;
 
+/// The tags, each with the name of its field.
+pub mod tag {
+    /// The sizes n and m.
+    pub const SIZES: u8 = 0x01;
+    /// H.
+    pub const H: u8 = 0x02;
+    /// The vector x.
+    pub const X: u8 = 0x03;
+    /// The serial.
+    pub const SERIAL: u8 = 0x05;
+    /// The masked witness t.
+    pub const T: u8 = 0x06;
+    /// The proof a.
+    pub const A: u8 = 0x07;
+    /// The verifier's numbers q.
+    pub const Q: u8 = 0x11;
+    /// The mask numbers.
+    pub const MASKS: u8 = 0x12;
+    /// The challenge Δ.
+    pub const DELTA: u8 = 0x13;
+    /// The weights α.
+    pub const ALPHA: u8 = 0x14;
+}
+
 /// The tags of a package: "A package has exactly these fields in this order".
-pub const PACKAGE_TAGS: [u8; 6] = [0x01, 0x02, 0x03, 0x05, 0x06, 0x07];
+pub const PACKAGE_TAGS: [u8; 6] = [tag::SIZES, tag::H, tag::X, tag::SERIAL, tag::T, tag::A];
 
 /// The tags of a check file: "A check file is a package followed by" 11 q,
 /// 12 mask numbers, 13 Δ and 14 α.
-pub const CHECK_FILE_TAGS: [u8; 10] = [0x01, 0x02, 0x03, 0x05, 0x06, 0x07, 0x11, 0x12, 0x13, 0x14];
+pub const CHECK_FILE_TAGS: [u8; 10] = [
+    tag::SIZES,
+    tag::H,
+    tag::X,
+    tag::SERIAL,
+    tag::T,
+    tag::A,
+    tag::Q,
+    tag::MASKS,
+    tag::DELTA,
+    tag::ALPHA,
+];
 
 /// The bytes of tag and length: "a one-byte tag, a two-byte length".
 const HEAD: usize = 3;
@@ -134,15 +169,15 @@ fn judge_head_and_length(
 fn stated_length(tag: u8, sizes: Sizes) -> usize {
     let Sizes { n, m, d } = sizes;
     match tag {
-        0x02 => 2 * m * n,
-        0x03 => 2 * n,
-        0x05 => 2,
-        0x06 => n * d,
-        0x07 => 24 * d,
-        0x11 => 24 * n * d,
-        0x12 => 24 * (d - 1),
-        0x13 => 24,
-        0x14 => 24 * (n + m),
+        tag::H => 2 * m * n,
+        tag::X => 2 * n,
+        tag::SERIAL => 2,
+        tag::T => n * d,
+        tag::A => 24 * d,
+        tag::Q => 24 * n * d,
+        tag::MASKS => 24 * (d - 1),
+        tag::DELTA => 24,
+        tag::ALPHA => 24 * (n + m),
         _ => unreachable!("no field has this tag"),
     }
 }
@@ -160,9 +195,9 @@ pub fn words(content: &[u8]) -> Vec<u16> {
 /// content".
 fn judge_values(tag: u8, content: &[u8]) -> Result<(), Refusal> {
     match tag {
-        0x02 | 0x03 => elements_of_f(&words(content)).map(|_| ()),
-        0x05 => Ok(()),
-        0x06 => bits(content).map(|_| ()),
+        tag::H | tag::X => elements_of_f(&words(content)).map(|_| ()),
+        tag::SERIAL => Ok(()),
+        tag::T => bits(content).map(|_| ()),
         _ => elements_of_k(&words(content)).map(|_| ()),
     }
 }
@@ -175,7 +210,7 @@ fn judge_sizes(
     bytes: &[u8],
     piece: Option<&Piece>,
 ) -> Result<(Sizes, Range<usize>), (Place, Refusal)> {
-    let content = judge_head_and_length(piece, 0x01, 2)?;
+    let content = judge_head_and_length(piece, tag::SIZES, 2)?;
     let n = usize::from(bytes[content.start]);
     let m = usize::from(bytes[content.start + 1]);
     let sizes = Sizes::judged(n, m).map_err(|refusal| (Place::Values, refusal))?;
@@ -223,7 +258,7 @@ fn place_of(found: &[Found], tag: u8) -> Option<Range<usize>> {
 
 /// n, m and the serial of judged bytes.
 fn contents(bytes: &[u8], sizes: Sizes, found: &[Found]) -> Contents {
-    let serial = place_of(found, 0x05).expect("05 is in both lists of tags");
+    let serial = place_of(found, tag::SERIAL).expect("05 is in both lists of tags");
     Contents {
         n: sizes.n,
         m: sizes.m,
@@ -300,6 +335,18 @@ impl WrittenField {
     }
 }
 
+/// Where the field with this tag stands in a list that has it.
+pub fn index_of(fields: &[WrittenField], tag: u8) -> usize {
+    let index = fields.iter().position(|field| field.tag == tag);
+    index.expect("a field of the list")
+}
+
+/// The fields of the package in the list of a check file: "A check file is a
+/// package followed by" the field q and others.
+pub fn package_part(fields: &[WrittenField]) -> &[WrittenField] {
+    &fields[..index_of(fields, tag::Q)]
+}
+
 /// The bytes of fields one after another: "a one-byte tag, a two-byte length
 /// and the content".
 pub fn join(fields: &[WrittenField]) -> Vec<u8> {
@@ -322,22 +369,22 @@ fn word_bytes(words: &[u16]) -> Vec<u8> {
 #[allow(clippy::too_many_arguments)]
 pub fn package_fields(key: Key<'_>, serial: u16, t: &[u8], a: &[u16]) -> Vec<WrittenField> {
     vec![
-        WrittenField::new(0x01, vec![key.n as u8, key.m as u8]),
-        WrittenField::new(0x02, word_bytes(key.h)),
-        WrittenField::new(0x03, word_bytes(key.x)),
-        WrittenField::new(0x05, word_bytes(&[serial])),
-        WrittenField::new(0x06, t.to_vec()),
-        WrittenField::new(0x07, word_bytes(a)),
+        WrittenField::new(tag::SIZES, vec![key.n as u8, key.m as u8]),
+        WrittenField::new(tag::H, word_bytes(key.h)),
+        WrittenField::new(tag::X, word_bytes(key.x)),
+        WrittenField::new(tag::SERIAL, word_bytes(&[serial])),
+        WrittenField::new(tag::T, t.to_vec()),
+        WrittenField::new(tag::A, word_bytes(a)),
     ]
 }
 
 /// The fields that a check file has after the package.
 pub fn check_fields(q: &[u16], masks: &[u16], delta: &[u16], alpha: &[u16]) -> Vec<WrittenField> {
     vec![
-        WrittenField::new(0x11, word_bytes(q)),
-        WrittenField::new(0x12, word_bytes(masks)),
-        WrittenField::new(0x13, word_bytes(delta)),
-        WrittenField::new(0x14, word_bytes(alpha)),
+        WrittenField::new(tag::Q, word_bytes(q)),
+        WrittenField::new(tag::MASKS, word_bytes(masks)),
+        WrittenField::new(tag::DELTA, word_bytes(delta)),
+        WrittenField::new(tag::ALPHA, word_bytes(alpha)),
     ]
 }
 

@@ -2,7 +2,7 @@
 
 use crate::entries::{verify, Verdict};
 use crate::key::Key;
-use crate::package::{check_file_field, read_check_file, words, Contents};
+use crate::package::{check_file_field, read_check_file, tag, words, Contents};
 use crate::refusal::Refusal;
 
 /// "reads a check file of at most 32,768 bytes from standard input".
@@ -15,11 +15,12 @@ pub fn check(bytes: &[u8]) -> Result<(Contents, Verdict), Refusal> {
     let key = Key {
         n: contents.n,
         m: contents.m,
-        h: &words(0x02),
-        x: &words(0x03),
+        h: &words(tag::H),
+        x: &words(tag::X),
     };
-    let t = check_file_field(bytes, 0x06);
-    let [q, delta, masks, alpha, a] = [0x11, 0x13, 0x12, 0x14, 0x07].map(words);
+    let t = check_file_field(bytes, tag::T);
+    let [q, delta, masks, alpha, a] =
+        [tag::Q, tag::DELTA, tag::MASKS, tag::ALPHA, tag::A].map(words);
     let verdict = verify(key, t, &q, &delta, &masks, &alpha, &a)?;
     Ok((contents, verdict))
 }

@@ -55,6 +55,12 @@ impl Generator {
         (0..count).map(|_| self.word()).collect()
     }
 
+    /// H of a key: m rows of n words 0 to 2047 that do not depend on each
+    /// other, m at most n.
+    pub fn matrix(&mut self, n: usize, m: usize) -> Vec<u16> {
+        independent_rows(m, || self.words(n))
+    }
+
     /// Bytes 0 or 1.
     pub fn bits(&mut self, count: usize) -> Vec<u8> {
         (0..count).map(|_| self.below(2) as u8).collect()
@@ -104,6 +110,12 @@ pub fn solves(n: usize, h: &[u16], x: &[u16], positions: &[u8]) -> bool {
     })
 }
 
+/// The word that times this one, which isn't 0, is a product.
+pub fn quotient(product: u16, divisor: u16) -> u16 {
+    let inverse = small(divisor).inverse().expect("the divisor isn't 0");
+    (small(product) * inverse).word()
+}
+
 /// A row of H with random entries, one of them changed so that the sum of
 /// H(e,i) times entry i is zero.
 pub fn orthogonal_row(entries: &[u16], generator: &mut Generator) -> Vec<u16> {
@@ -117,10 +129,59 @@ pub fn orthogonal_row(entries: &[u16], generator: &mut Generator) -> Vec<u16> {
     for i in (0..entries.len()).filter(|&i| i != place) {
         others = others + small(row[i]) * small(entries[i]);
     }
-    row[place] = (0..=F::LARGEST)
-        .find(|&word| small(word) * small(entries[place]) == others)
-        .expect("F has quotients");
+    row[place] = quotient(others.word(), entries[place]);
     row
+}
+
+/// Rows of which none is a sum of multiples of the others. Each is kept with
+/// one in the first place that isn't zero once multiples of the rows before it
+/// are taken away.
+#[derive(Default)]
+struct Independent(Vec<(usize, Vec<F>)>);
+
+impl Independent {
+    /// Whether a row is no sum of multiples of these rows; then it joins them.
+    fn join(&mut self, row: &[u16]) -> bool {
+        let mut rest: Vec<F> = row.iter().map(|&word| small(word)).collect();
+        let clear = |rest: &mut [F], place: usize, other: &[F]| {
+            let factor = rest[place];
+            for (entry, &other) in rest.iter_mut().zip(other) {
+                *entry = *entry + factor * other;
+            }
+        };
+        for (place, other) in &self.0 {
+            clear(&mut rest, *place, other);
+        }
+        let Some(place) = rest.iter().position(|&entry| entry != F::ZERO) else {
+            return false;
+        };
+        let inverse = rest[place].inverse().expect("the entry isn't zero");
+        rest.iter_mut().for_each(|entry| *entry = *entry * inverse);
+        self.0.push((place, rest));
+        true
+    }
+}
+
+/// Whether no sum of multiples of the rows of H, with factors from F that are
+/// not all zero, is zero.
+pub fn independent(h: &[u16], n: usize) -> bool {
+    let mut rows = Independent::default();
+    h.chunks(n).all(|row| rows.join(row))
+}
+
+/// m rows of H that do not depend on each other. Each is drawn, and drawn again
+/// while it depends on those before it.
+pub fn independent_rows(m: usize, mut draw: impl FnMut() -> Vec<u16>) -> Vec<u16> {
+    let mut rows = Independent::default();
+    let mut h = Vec::new();
+    for _ in 0..m {
+        let mut row = draw();
+        while !rows.join(&row) {
+            row = draw();
+        }
+        h.extend(row);
+    }
+    h
 }
 
 /// "An honest q is u times Δ plus v", for all correlations.
@@ -186,9 +247,7 @@ impl Sample {
         let x = generator.words(n);
         let positions = generator.order(n);
         let entries = in_order(&x, &positions);
-        let h = (0..m)
-            .flat_map(|_| orthogonal_row(&entries, generator))
-            .collect();
+        let h = independent_rows(m, || orthogonal_row(&entries, generator));
         let u = generator.bits(sizes.bit_bytes());
         let v = generator.words(sizes.correlation_words());
         let r = generator.words(sizes.mask_words());
@@ -222,9 +281,11 @@ impl Sample {
     pub fn solved_by_all(n: usize, m: usize, generator: &mut Generator) -> Sample {
         let mut sample = Sample::solving(n, m, generator);
         sample.x = vec![generator.word() | 1; n];
-        for row in sample.h.chunks_mut(n) {
+        sample.h = independent_rows(m, || {
+            let mut row = generator.words(n);
             row[0] = row[1..].iter().fold(0, |sum, word| sum ^ word);
-        }
+            row
+        });
         sample
     }
 

@@ -37,6 +37,22 @@ impl<const LEVEL: usize> Small<LEVEL> {
     pub fn word(self) -> u16 {
         self.0
     }
+
+    /// The element that times this one is one; none for zero. F has 2^width
+    /// elements, so it is the power 2^width - 2, which is the product of the
+    /// powers 2, 4, .., 2^(width - 1).
+    pub fn inverse(self) -> Option<Self> {
+        if self == Self::ZERO {
+            return None;
+        }
+        let mut inverse = Self::ONE;
+        let mut power = self;
+        for _ in 1..Self::WIDTH {
+            power = power * power;
+            inverse = inverse * power;
+        }
+        Some(inverse)
+    }
 }
 
 /// Products of polynomials over two elements, and the rule of the level.

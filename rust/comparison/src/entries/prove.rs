@@ -2,13 +2,13 @@
 
 use super::keyed::{self, set_bytes, set_words, Keyed, Slice, H, POSITIONS, U, V, X};
 use super::rounds;
-use super::witnesses::{self, quotient, Witness};
+use super::witnesses::{self, Witness};
 use super::{number, DONE, TOP};
 use crate::case::{Case, Entry, Group, Least, Stated};
 use crate::library;
 use reference::key::Sizes;
 use reference::large_field::COORDINATES;
-use reference::samples::{in_order, Generator, Sample};
+use reference::samples::{in_order, quotient, Generator, Sample};
 use reference::small_field::F;
 use reference::Refusal;
 

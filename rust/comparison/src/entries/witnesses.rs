@@ -2,7 +2,7 @@
 
 use super::rounds::{self, Round};
 use super::{keyed, DONE, TOP};
-use reference::samples::{in_order, Generator, Sample};
+use reference::samples::{in_order, quotient, Generator, Sample};
 use reference::small_field::F;
 
 /// A sample, and what prove answers for its positions, where it is known
@@ -77,13 +77,6 @@ pub fn all_positions(n: usize, m: usize, generator: &mut Generator) -> Vec<Witne
 /// The element of F with this number.
 fn element(word: u16) -> F {
     F::from_word(word).expect("a word up to 2047")
-}
-
-/// The word that times this one, which isn't 0, is a product.
-pub fn quotient(product: u16, divisor: u16) -> u16 {
-    (0..=F::LARGEST)
-        .find(|&word| element(word) * element(divisor) == element(product))
-        .expect("F has quotients")
 }
 
 /// Changes one word in each row of H so that the positions, which are an order,

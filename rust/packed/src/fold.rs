@@ -2,7 +2,7 @@
 //! them: two columns that differ in one digit, the highest first, are folded
 //! into one.
 
-use crate::packed::{load, mask, masked, plus, Element, Multiples, ZERO};
+use crate::element::{load, mask, masked, plus, Element, Multiples, ZERO};
 use crate::rows::{Within, COEFFICIENTS, COLUMNS};
 
 /// The weights of a key's polynomials.

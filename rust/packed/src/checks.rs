@@ -1,6 +1,6 @@
 //! The refusals of the entries, with their numbers in C.
 
-use crate::packed::COORDINATES;
+use crate::element::COORDINATES;
 use crate::rows::Within;
 use reference::key::Sizes;
 use reference::{Key, Refusal};

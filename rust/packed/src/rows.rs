@@ -2,7 +2,7 @@
 //! every column, where each prefix of digits is multiplied once, and the sums
 //! of all rows.
 
-use crate::packed::{load, mask, masked, plus, Element, Multiples, Sums, ONE, ZERO};
+use crate::element::{load, mask, masked, plus, Element, Multiples, Sums, ONE, ZERO};
 use reference::Key;
 
 /// The largest number of columns.

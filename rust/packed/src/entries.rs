@@ -1,9 +1,8 @@
-//! The entries in Rust, by the algorithms of the library: the functions on
-//! slices of `comparison::library` that take elements and keys.
+//! The entries.
 
 use crate::checks::{elements, keyed, Slices};
+use crate::element::{load, plus, store, Element, Multiples, ZERO};
 use crate::fold;
-use crate::packed::{load, plus, store, Element, Multiples, ZERO};
 use crate::rows::{COEFFICIENTS, POLYNOMIALS};
 use reference::{Key, Refusal};
 

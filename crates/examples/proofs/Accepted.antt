@@ -2,6 +2,7 @@
 use mathlib.Core.Path.{_≡_, _∙_, ap}
 use mathlib.Core.List.{List}
 use Prim.Native.Nat.{ℕ}
+use Rattle.refusal.specs.Answer.{refusal}
 use Rattle.refusal.specs.declared.Answer.{Answer}
 use Rattle.refusal.specs.declared.Answer.the-variants.{Done}
 use Rattle.refusal.specs.declared.Verdict.{Verdict}
@@ -15,7 +16,7 @@ use Rattle.verifier.specs.Complete.{HonestVerifier}
 use Rattle.verifier.proofs.Completeness.{completeness}
 
 pub accepted : (number : ℕ) (key : Key) (h x positions u v r s α t a q Δ masks : List ℕ) {answer : Answer} {t′ a′ : List ℕ} {verdict : Verdict}
-    → (answer, (t′, a′)) ≡ proveOutcome (levelAt number) key h x positions u v r s α t a → Solved (levelAt number) key h x positions u v r s α t a answer → verdict ≡ verifyOutcome (levelAt number) key h x t′ q Δ masks α a′
+    → (answer, (t′, a′)) ≡ proveOutcome (levelAt number) key h x positions u v r s α t a → Solved (levelAt number) key h x positions u v r s α t a (answer ≡ Done) (answer ≡ refusal 8) → verdict ≡ verifyOutcome (levelAt number) key h x t′ q Δ masks α a′
     → answer ≡ Done → HonestVerifier (levelAt number) key h x u v r s q Δ masks → verdict ≡ Accepted
 accepted number key h x positions u v r s α t a q Δ masks e p f done honest =
     let known = p .done .0 done in

@@ -122,7 +122,7 @@ one-proof a b h k = embed-injective first (omega arith) (small first a) (small f
     is : (a : ℕ) → eval (K first) 1 (vector 1 (elementAt first (bares (a ∷ [])))) (element first Δ) ≡ embed first .map (smallAt first (a ∷ []) 0)
     is a = at-Δ (K first) (elementAt first (bares (a ∷ []))) (element first Δ) ∙ element-bares (a ∷ []) 0
 
-judges : (a : ℕ) → Judges first (sizes A) (A .H) (A .x) t q Δ masks (bares (A .α)) (bares (a ∷ [])) (verdictOf A t (3 ∷ 4 ∷ []) 2 [] (a ∷ []))
+judges : (a : ℕ) → Judges first (sizes A) (A .H) (A .x) t q Δ masks (bares (A .α)) (bares (a ∷ [])) (verdictOf A t (3 ∷ 4 ∷ []) 2 [] (a ∷ []) ≡ Accepted) (verdictOf A t (3 ∷ 4 ∷ []) 2 [] (a ∷ []) ≡ Rejected)
 unfolding verdictOf verifyOutcome
 judges a = told first (sizes A) (A .H) (A .x) t q Δ masks (bares (A .α)) (bares (a ∷ [])) refl refl refl refl refl .1
 

@@ -1,6 +1,7 @@
 // Prints what the entries answer and write for the examples of document 01 and for its edges, a line each.
 // An element of K is printed as its coordinate 0, then each other coordinate c that is not zero as +cY^i.
-ghost use Prim.Native.Nat.{_<_};
+ghost use Prim.Native.Nat.{_*_, _<_};
+ghost use lib.ListN.{length};
 use key::Key;
 use refusal::Answer;
 use refusal::Verdict;
@@ -378,7 +379,17 @@ fn limits(none: &[u16]) {
     edge(b"a 2048", none, 2, 1, 2, 1, 1, 3, 2, 1, 2048);
 }
 
-// n = 64, m = 63: H, x and u are zero, positions 0 to 63, and v and the weights have two words that are not zero.
+// H for n = 64 and m = 63, from zeros: one at column e of row e.
+fn units(h: &mut [u16])
+    requires { ⌜ 65 * 62 < length (now h) ⌝ }
+{
+    for e in 0..63usize {
+        h[65 * e] = 1;
+    }
+}
+
+// n = 64, m = 63: row e of H is one at column e and zero elsewhere, x and u are zero, positions 0 to 63, and v and the weights have two words
+// that are not zero.
 fn largest() {
     let positions = [
         0u8,
@@ -457,7 +468,8 @@ fn largest() {
     let mut values = [0u16; 1524];
     let mut proof = [0u16; 72];
     let key = Key { n: 64, m: 63 };
-    let h = [0u16; 4032];
+    let mut h = [0u16; 4032];
+    units(&mut h);
     let x = [0u16; 64];
     let masks = [0u16; 60];
     text(b"n = 64, m = 63");

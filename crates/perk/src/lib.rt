@@ -6,8 +6,10 @@ ghost use Rattle.refusal.specs.Verdict.{verdictNumber};
 ghost use Rattle.arithmetic.specs.Entry.{sumOutcome, productOutcome};
 ghost use Rattle.field.specs.Level.{FIRST, levelAt};
 ghost use Rattle.constraints.specs.Entry.{constraintsOutcome, valuesOutcome};
+ghost use Rattle.constraints.specs.Truth.{Truth};
 ghost use Rattle.prover.specs.Entry.{proveOutcome};
-ghost use Rattle.verifier.specs.Entry.{verifyOutcome};
+ghost use Rattle.prover.specs.Solved.{Solved};
+ghost use Rattle.verifier.specs.Entry.{verifyOutcome, Judges};
 ghost use Rattle.layout.specs.Layout.{packageRows, checkFileRows};
 ghost use Rattle.package.specs.Reading.{reading, fieldPart};
 ghost use Rattle.checkfile.specs.Checking.{checkNumber, checking};
@@ -44,7 +46,8 @@ pub extern "C" fn perk_constraints(
     t: &mut [u8],
     polynomials: &mut [u16],
 ) -> u32
-    ensures { λ r. ⌜ (r, (now (t .exit), now (polynomials .exit))) ≡ numbered (constraintsOutcome (levelAt FIRST) (record { n = n; m = m }) (now (h .entry)) (now (x .entry)) (now (positions .entry)) (now (u .entry)) (now (v .entry)) (now (t .entry)) (now (polynomials .entry))) ⌝ }
+    ensures outcome { λ r. ⌜ (r, (now (t .exit), now (polynomials .exit))) ≡ numbered (constraintsOutcome (levelAt FIRST) (record { n = n; m = m }) (now (h .entry)) (now (x .entry)) (now (positions .entry)) (now (u .entry)) (now (v .entry)) (now (t .entry)) (now (polynomials .entry))) ⌝ }
+    ensures truth { λ r. ⌜ (r ≡ 0 → Truth (levelAt FIRST) n m (now (h .entry)) (now (x .entry)) (now (positions .entry)) (now (u .entry)) (now (v .entry)) (now (t .exit)) (now (polynomials .exit))) ⌝ }
 {
     let key = Key { n, m };
     refusal::number(constraints::constraints(key, h, x, positions, u, v, t, polynomials))
@@ -84,7 +87,8 @@ pub extern "C" fn perk_prove(
     t: &mut [u8],
     a: &mut [u16],
 ) -> u32
-    ensures { λ o. ⌜ (o, (now (t .exit), now (a .exit))) ≡ numbered (proveOutcome (levelAt FIRST) (record { n = n; m = m }) (now (h .entry)) (now (x .entry)) (now (positions .entry)) (now (u .entry)) (now (v .entry)) (now (r .entry)) (now (s .entry)) (now (alpha .entry)) (now (t .entry)) (now (a .entry))) ⌝ }
+    ensures outcome { λ o. ⌜ (o, (now (t .exit), now (a .exit))) ≡ numbered (proveOutcome (levelAt FIRST) (record { n = n; m = m }) (now (h .entry)) (now (x .entry)) (now (positions .entry)) (now (u .entry)) (now (v .entry)) (now (r .entry)) (now (s .entry)) (now (alpha .entry)) (now (t .entry)) (now (a .entry))) ⌝ }
+    ensures solved { λ o. ⌜ Solved (levelAt FIRST) (record { n = n; m = m }) (now (h .entry)) (now (x .entry)) (now (positions .entry)) (now (u .entry)) (now (v .entry)) (now (r .entry)) (now (s .entry)) (now (alpha .entry)) (now (t .entry)) (now (a .entry)) (o ≡ 0) (o ≡ 8) ⌝ }
 {
     let key = Key { n, m };
     refusal::number(prover::prove(key, h, x, positions, u, v, r, s, alpha, t, a))
@@ -104,7 +108,8 @@ pub extern "C" fn perk_verify(
     alpha: &[u16],
     a: &[u16],
 ) -> u32
-    ensures { λ o. ⌜ o ≡ verdictNumber (verifyOutcome (levelAt FIRST) (record { n = n; m = m }) (now (h .entry)) (now (x .entry)) (now (t .entry)) (now (q .entry)) (now (delta .entry)) (now (masks .entry)) (now (alpha .entry)) (now (a .entry))) ⌝ }
+    ensures outcome { λ o. ⌜ o ≡ verdictNumber (verifyOutcome (levelAt FIRST) (record { n = n; m = m }) (now (h .entry)) (now (x .entry)) (now (t .entry)) (now (q .entry)) (now (delta .entry)) (now (masks .entry)) (now (alpha .entry)) (now (a .entry))) ⌝ }
+    ensures judges { λ o. ⌜ Judges (levelAt FIRST) (record { n = n; m = m }) (now (h .entry)) (now (x .entry)) (now (t .entry)) (now (q .entry)) (now (delta .entry)) (now (masks .entry)) (now (alpha .entry)) (now (a .entry)) (o ≡ 0) (o ≡ 255) ⌝ }
 {
     let key = Key { n, m };
     refusal::verdict_number(verifier::verify(key, h, x, t, q, delta, masks, alpha, a))

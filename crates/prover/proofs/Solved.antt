@@ -75,7 +75,7 @@ module _ (number : ℕ) (key : Key) (h x positions u v r s α t a : List ℕ) wh
       let q = tops-solve l (b .width) (b .coordinates) (key .n) (key .m) h x (omega (arith, b .most, f .is-sized .most)) positions (λ i p. f .positions-lt i) v in
       (λ z. q .0 (tops-true l (system l key h x) (witnessOf (key .n) positions) v .0 z), λ z. tops-true l (system l key h x) (witnessOf (key .n) positions) v .1 (q .1 z))
 
-  pub solved : {o : Answer} → o ≡ firstOf (proveRows (levelAt number) key h x positions u v r s α t a ++ topsRow (levelAt number) key h x positions v) → Solved (levelAt number) key h x positions u v r s α t a o
+  pub solved : {o : Answer} → o ≡ firstOf (proveRows (levelAt number) key h x positions u v r s α t a ++ topsRow (levelAt number) key h x positions v) → Solved (levelAt number) key h x positions u v r s α t a (o ≡ Done) (o ≡ refusal 8)
   solved {o} e = record {
     done = (
       λ d. let b = done-both rows (not zero-tops) 8 (sym e ∙ d) in (b .0, solves (b .0) .0 (not-false zero-tops (b .1))),

@@ -3,8 +3,7 @@ use mathlib.Core.Path.{_≡_}
 use mathlib.Core.Logic.{_↔_}
 use mathlib.Core.List.{List}
 use Prim.Native.Nat.{ℕ}
-use Rattle.refusal.specs.Answer.{refusal, firstOf}
-use Rattle.refusal.specs.declared.Answer.{Answer}
+use Rattle.refusal.specs.Answer.{firstOf}
 use Rattle.refusal.specs.declared.Answer.the-variants.{Done}
 use Rattle.field.specs.declared.Level.{Level}
 use Rattle.key.specs.declared.Key.{Key}
@@ -16,7 +15,8 @@ use Rattle.prover.specs.Entry.{proveRows}
 abbrev pub SolvesKey : (l : Level) (key : Key) (h x positions : List ℕ) → Type 0
 SolvesKey l key h x positions = Order (key .n) (positionAt positions) × Solves (keyOf l (key .n) (key .m) h x) (positionAt positions)
 
--- past refusals 1 to 7 the answer is Done exactly when they do, and 8 exactly when they do not
-pub record Solved (l : Level) (key : Key) (h x positions u v r s α t a : List ℕ) (answer : Answer) : Type 0 where
-  pub done : (answer ≡ Done) ↔ ((firstOf (proveRows l key h x positions u v r s α t a) ≡ Done) × SolvesKey l key h x positions)
-  pub eight : (answer ≡ refusal 8) ↔ ((firstOf (proveRows l key h x positions u v r s α t a) ≡ Done) × (SolvesKey l key h x positions → ⊥))
+-- past refusals 1 to 7 prove is done exactly when they do, and answers 8 exactly when they do not. Each function says how its answer tells
+-- the one and the other.
+pub record Solved (l : Level) (key : Key) (h x positions u v r s α t a : List ℕ) (IsDone IsEight : Type 0) : Type 0 where
+  pub done : IsDone ↔ ((firstOf (proveRows l key h x positions u v r s α t a) ≡ Done) × SolvesKey l key h x positions)
+  pub eight : IsEight ↔ ((firstOf (proveRows l key h x positions u v r s α t a) ≡ Done) × (SolvesKey l key h x positions → ⊥))

@@ -5,7 +5,7 @@ ghost use Prim.Native.Nat.{ℕ};
 ghost use lib.Dec.{eqb};
 ghost use lib.ListN.{length};
 ghost use Rattle.lists.specs.Lent.{long};
-ghost use Rattle.refusal.specs.Answer.{firstOf, decided};
+ghost use Rattle.refusal.specs.Answer.{refusal, firstOf, decided};
 ghost use Rattle.refusal.specs.declared.Answer.the-variants.{Done};
 ghost use Rattle.field.specs.Level.{FIRST, levelAt};
 ghost use Rattle.row.specs.Lent.{LentKey};
@@ -172,7 +172,7 @@ pub fn prove(
     a: &mut [u16],
 ) -> Answer
     ensures outcome { λ o. ⌜ (o, (now (t .exit), now (a .exit))) ≡ proveOutcome (levelAt FIRST) key (now (h .entry)) (now (x .entry)) (now (positions .entry)) (now (u .entry)) (now (v .entry)) (now (r .entry)) (now (s .entry)) (now (alpha .entry)) (now (t .entry)) (now (a .entry)) ⌝ }
-    ensures solved { λ o. ⌜ Solved (levelAt FIRST) key (now (h .entry)) (now (x .entry)) (now (positions .entry)) (now (u .entry)) (now (v .entry)) (now (r .entry)) (now (s .entry)) (now (alpha .entry)) (now (t .entry)) (now (a .entry)) o ⌝ }
+    ensures solved { λ o. ⌜ Solved (levelAt FIRST) key (now (h .entry)) (now (x .entry)) (now (positions .entry)) (now (u .entry)) (now (v .entry)) (now (r .entry)) (now (s .entry)) (now (alpha .entry)) (now (t .entry)) (now (a .entry)) (o ≡ Done) (o ≡ refusal 8) ⌝ }
 {
     let answer = refused(key, h, x, positions, u, v, r, s, alpha, t, a);
     match answer {

@@ -44,7 +44,7 @@ module _ (l : Level) (key : Key) (h x t q Δ masks α a : List ℕ) where
   test : (holds ≡ true) ↔ AcceptsSlices l (system l key h x) t q Δ masks α a
   test = accepts-true l (system l key h x) t q Δ masks α a
 
-  judges : {verdict : Verdict} → verdict ≡ judged answer holds → Judges l key h x t q Δ masks α a verdict
+  judges : {verdict : Verdict} → verdict ≡ judged answer holds → Judges l key h x t q Δ masks α a (verdict ≡ Accepted) (verdict ≡ Rejected)
   judges e = record {
     accepted = (
       λ v. let f = accepted-only answer holds (sym e ∙ v) in (f .0, test .0 (f .1)),
@@ -57,7 +57,7 @@ module _ (l : Level) (key : Key) (h x t q Δ masks α a : List ℕ) where
   }
 
   -- what is told of the answer r and of the test y gives the outcome, which judges
-  pub told : {verdict : Verdict} {r o : Answer} {y b : Bool} → r ≡ answer → r ≡ o → y ≡ holds → y ≡ b → verdict ≡ judged o b → (verdict ≡ verifyOutcome l key h x t q Δ masks α a) × Judges l key h x t q Δ masks α a verdict
+  pub told : {verdict : Verdict} {r o : Answer} {y b : Bool} → r ≡ answer → r ≡ o → y ≡ holds → y ≡ b → verdict ≡ judged o b → (verdict ≡ verifyOutcome l key h x t q Δ masks α a) × Judges l key h x t q Δ masks α a (verdict ≡ Accepted) (verdict ≡ Rejected)
   unfolding verifyOutcome
   told {verdict} e p f q v = (is, judges is)
     where

@@ -9,7 +9,6 @@ use Rattle.refusal.specs.Answer.{firstOf}
 use Rattle.refusal.specs.Verdict.{judged}
 use Rattle.refusal.specs.declared.Answer.the-variants.{Done}
 use Rattle.refusal.specs.declared.Verdict.{Verdict}
-use Rattle.refusal.specs.declared.Verdict.the-variants.{Accepted, Rejected}
 use Rattle.field.specs.declared.Level.{Level}
 use Rattle.key.specs.declared.Key.{Key}
 use Rattle.key.specs.declared.Lengths.{Lengths}
@@ -38,7 +37,8 @@ module _ (l : Level) (key : Key) where
   unfoldable pub verifyOutcome : (h x t q Δ masks α a : List ℕ) → Verdict
   verifyOutcome h x t q Δ masks α a = judged (firstOf (verifyRows h x t q Δ masks α a)) (accepts l (system l key h x) t q Δ masks α a)
 
-  -- where no refusal applies: "The verifier accepts exactly when a at Δ equals" the verifier's side
-  pub record Judges (h x t q Δ masks α a : List ℕ) (verdict : Verdict) : Type 0 where
-    pub accepted : (verdict ≡ Accepted) ↔ ((firstOf (verifyRows h x t q Δ masks α a) ≡ Done) × AcceptsSlices l (system l key h x) t q Δ masks α a)
-    pub rejected : (verdict ≡ Rejected) ↔ ((firstOf (verifyRows h x t q Δ masks α a) ≡ Done) × (AcceptsSlices l (system l key h x) t q Δ masks α a → ⊥))
+  -- where no refusal applies: "The verifier accepts exactly when a at Δ equals" the verifier's side. Each function says how its answer tells
+  -- Accepted and Rejected.
+  pub record Judges (h x t q Δ masks α a : List ℕ) (IsAccepted IsRejected : Type 0) : Type 0 where
+    pub accepted : IsAccepted ↔ ((firstOf (verifyRows h x t q Δ masks α a) ≡ Done) × AcceptsSlices l (system l key h x) t q Δ masks α a)
+    pub rejected : IsRejected ↔ ((firstOf (verifyRows h x t q Δ masks α a) ≡ Done) × (AcceptsSlices l (system l key h x) t q Δ masks α a → ⊥))

@@ -5,6 +5,7 @@ ghost use lib.ListN.{length};
 ghost use Rattle.lists.specs.Lent.{long};
 ghost use Rattle.refusal.specs.Answer.{firstOf};
 ghost use Rattle.refusal.specs.declared.Answer.the-variants.{Done};
+ghost use Rattle.refusal.specs.declared.Verdict.the-variants.{Accepted, Rejected};
 ghost use Rattle.field.specs.Level.{FIRST, levelAt};
 ghost use Rattle.key.specs.Key.{Sized, lengths};
 ghost use Rattle.constraints.specs.Entry.{system};
@@ -163,7 +164,7 @@ pub fn verify(
     a: &[u16],
 ) -> Verdict
     ensures outcome { λ o. ⌜ o ≡ verifyOutcome (levelAt FIRST) key (now (h .entry)) (now (x .entry)) (now (t .entry)) (now (q .entry)) (now (delta .entry)) (now (masks .entry)) (now (alpha .entry)) (now (a .entry)) ⌝ }
-    ensures judges { λ o. ⌜ Judges (levelAt FIRST) key (now (h .entry)) (now (x .entry)) (now (t .entry)) (now (q .entry)) (now (delta .entry)) (now (masks .entry)) (now (alpha .entry)) (now (a .entry)) o ⌝ }
+    ensures judges { λ o. ⌜ Judges (levelAt FIRST) key (now (h .entry)) (now (x .entry)) (now (t .entry)) (now (q .entry)) (now (delta .entry)) (now (masks .entry)) (now (alpha .entry)) (now (a .entry)) (o ≡ Accepted) (o ≡ Rejected) ⌝ }
 {
     match refused(key, h, x, t, q, delta, masks, alpha, a) {
         Answer::Done => {

@@ -1,4 +1,17 @@
+use mathlib.Core.Path.{_≡_, ap}
+use mathlib.Core.Logic.{_↔_}
+use mathlib.Core.List.{List, _++_}
+use Prim.Native.Nat.{ℕ}
+use native.Mathlib.Omega.{arith}
+use Rattle.refusal.specs.Answer.{numberOf}
+use Rattle.refusal.specs.declared.Answer.{Answer}
+use Rattle.refusal.specs.declared.Answer.the-variants.{Done}
 use Rattle.refusal.proofs.Answers.{when-numbered}
+use Rattle.field.specs.declared.Level.{Level}
+use Rattle.key.specs.declared.Key.{Key}
+use Rattle.prover.specs.Entry.{proveRows, topsRow, proveOutcome}
+use Rattle.prover.specs.Solved.{Solved}
+use Rattle.perk.proofs.Numbers.{told-done, told-refusal, both}
 use borrow.Author.Needs.{needs}
 use Rattle.perk.proofs.perk_prove.Statement.{statement}
 use Rattle.perk.proofs.perk_prove.Tie as tie
@@ -15,8 +28,16 @@ same-length c = search needs
 same-length-2 : tie.Need-same-length-2
 same-length-2 c = search needs
 
+done : (l : Level) (key : Key) (h x positions u v r s α t a : List ℕ) {o : Answer} {left : List ℕ × List ℕ} {k : ℕ} → (o, left) ≡ proveOutcome l key h x positions u v r s α t a → k ≡ numberOf o → (k ≡ 0) ↔ (o ≡ Done)
+unfolding proveOutcome
+done l key h x positions u v r s α t a e n =
+    told-done n (proveRows l key h x positions u v r s α t a ++ topsRow l key h x positions v) (omega arith, omega arith, (omega arith, omega arith, (omega arith, omega arith, (omega arith, omega arith, (omega arith, omega arith, (omega arith, omega arith, (omega arith, omega arith, (omega arith, omega arith, (omega arith, omega arith, (omega arith, omega arith, tt)))))))))) (ap (λ (o : Answer × (List ℕ × List ℕ)). o .0) e)
+
 returns : tie.Need-returns
-returns c = when-numbered (c .before .before .before .before .before .prove .ensures .0) (c .number .ensures)
+returns c =
+    let e = c .before .before .before .before .before .prove .ensures in
+    let n = c .number .ensures in
+    (when-numbered (e .0) n, record { done = both (done _ _ _ _ _ _ _ _ _ _ _ _ (e .0) n) (e .1 .done); eight = both (told-refusal n 8 (omega arith)) (e .1 .eight) })
 
 pub perk-prove-spec : {M : Type 1} → statement M
 perk-prove-spec =

@@ -1,5 +1,17 @@
 use Rattle.refusal.specs.Verdict.{verdictNumber}
-use mathlib.Core.Path.{ap, _∙_}
+use Rattle.refusal.specs.declared.Verdict.{Verdict}
+use Rattle.refusal.specs.declared.Verdict.the-variants.{Accepted, Rejected}
+use mathlib.Core.Path.{_≡_, ap, _∙_}
+use mathlib.Core.Logic.{_↔_}
+use mathlib.Core.List.{List}
+use Prim.Native.Nat.{ℕ}
+use native.Mathlib.Omega.{arith}
+use Rattle.field.specs.declared.Level.{Level}
+use Rattle.key.specs.declared.Key.{Key}
+use Rattle.constraints.specs.Entry.{system}
+use Rattle.checkzero.specs.Slices.{accepts}
+use Rattle.verifier.specs.Entry.{verifyRows, verifyOutcome, Judges}
+use Rattle.perk.proofs.Numbers.{Refusals, told-accepted, told-rejected, both}
 use borrow.Author.Needs.{needs}
 use Rattle.perk.proofs.perk_verify.Statement.{statement}
 use Rattle.perk.proofs.perk_verify.Tie as tie
@@ -10,8 +22,20 @@ verify-requires c κs = search needs
 verdict-number-requires : tie.Need-verdict-number-requires
 verdict-number-requires c κs = search needs
 
+told : (l : Level) (key : Key) (h x t q Δ masks α a : List ℕ) {v : Verdict} {k : ℕ} → v ≡ verifyOutcome l key h x t q Δ masks α a → k ≡ verdictNumber v → ((k ≡ 0) ↔ (v ≡ Accepted)) × ((k ≡ 255) ↔ (v ≡ Rejected))
+unfolding verifyOutcome
+told l key h x t q Δ masks α a e n =
+    let rows = verifyRows l key h x t q Δ masks α a in
+    let f : Refusals rows = (omega arith, omega arith, (omega arith, omega arith, (omega arith, omega arith, (omega arith, omega arith, (omega arith, omega arith, (omega arith, omega arith, (omega arith, omega arith, (omega arith, omega arith, (omega arith, omega arith, tt))))))))) in
+    let holds = accepts l (system l key h x) t q Δ masks α a in
+    (told-accepted n rows f holds e, told-rejected n rows f holds e)
+
 returns : tie.Need-returns
-returns c = c .verdict-number .ensures ∙ ap verdictNumber (c .before .verify .ensures .0)
+returns c =
+    let e = c .before .verify .ensures in
+    let n = c .verdict-number .ensures in
+    let by = told _ _ _ _ _ _ _ _ _ _ (e .0) n in
+    (n ∙ ap verdictNumber (e .0), record { accepted = both (by .0) (e .1 .accepted); rejected = both (by .1) (e .1 .rejected) })
 
 pub perk-verify-spec : {M : Type 1} → statement M
 perk-verify-spec = tie.close (tie.spec verify-requires verdict-number-requires returns)

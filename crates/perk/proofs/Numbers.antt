@@ -1,0 +1,59 @@
+-- Which answer and which verdict a number tells.
+use mathlib.Core.Path.{_≡_, refl, sym, ap, _∙_}
+use mathlib.Core.Logic.{_↔_}
+use mathlib.Core.Bool.{Bool, true, false}
+use mathlib.Core.List.{List, [], _∷_, _++_}
+use Prim.Native.Nat.{ℕ, _<_}
+use native.Mathlib.Omega.{arith}
+use Rattle.refusal.specs.Answer.{numberOf, refusal, firstOf}
+use Rattle.refusal.specs.Verdict.{verdictNumber, judged}
+use Rattle.refusal.specs.declared.Answer.{Answer}
+use Rattle.refusal.specs.declared.Answer.the-variants.{Done, Refused}
+use Rattle.refusal.specs.declared.Verdict.{Verdict}
+use Rattle.refusal.specs.declared.Verdict.the-variants.{Accepted, Rejected, Refused as Turned}
+
+-- no row has the number of an answer that is no refusal: 0, or 255
+abbrev pub Refusals : List (Bool × ℕ) → Type 0
+Refusals [] = Unit {0}
+Refusals ((b, k) ∷ rows) = (0 < k) × (k < 255) × Refusals rows
+
+zero-done : (rows : List (Bool × ℕ)) → Refusals rows → numberOf (firstOf rows) ≡ 0 → firstOf rows ≡ Done
+zero-done [] f e = refl
+zero-done ((false, k) ∷ rows) f e = zero-done rows (f .2) e
+zero-done ((true, k) ∷ rows) f e = absurd (omega (arith, f .0, e))
+
+-- the number k of the answer r is 0 exactly when r is Done, and j above 0 exactly when r is refusal j
+module _ {r : Answer} {k : ℕ} (e : k ≡ numberOf r) where
+  pub told-done : (rows : List (Bool × ℕ)) → Refusals rows → r ≡ firstOf rows → (k ≡ 0) ↔ (r ≡ Done)
+  told-done rows f is = (λ z. is ∙ zero-done rows f (sym (ap numberOf is) ∙ sym e ∙ z), λ d. e ∙ ap numberOf d)
+
+  pub told-refusal : (j : ℕ) → 0 < j → (k ≡ j) ↔ (r ≡ refusal j)
+  told-refusal j p = (λ z. only r (sym e ∙ z), λ d. e ∙ ap numberOf d)
+    where
+      only : (a : Answer) → numberOf a ≡ j → a ≡ refusal j
+      only Done z = absurd (omega (arith, p, z))
+      only (Refused a) z = ap refusal z
+
+zero-accepted : (rows : List (Bool × ℕ)) → Refusals rows → (b : Bool) → verdictNumber (judged (firstOf rows) b) ≡ 0 → judged (firstOf rows) b ≡ Accepted
+zero-accepted [] f true e = refl
+zero-accepted [] f false e = absurd (omega (arith, e))
+zero-accepted ((false, k) ∷ rows) f b e = zero-accepted rows (f .2) b e
+zero-accepted ((true, k) ∷ rows) f b e = absurd (omega (arith, f .0, e))
+
+last-rejected : (rows : List (Bool × ℕ)) → Refusals rows → (b : Bool) → verdictNumber (judged (firstOf rows) b) ≡ 255 → judged (firstOf rows) b ≡ Rejected
+last-rejected [] f true e = absurd (omega (arith, e))
+last-rejected [] f false e = refl
+last-rejected ((false, k) ∷ rows) f b e = last-rejected rows (f .2) b e
+last-rejected ((true, k) ∷ rows) f b e = absurd (omega (arith, f .1, e))
+
+-- the number k of the verdict v is 0 exactly when v is Accepted, and 255 exactly when v is Rejected
+module _ {v : Verdict} {k : ℕ} (e : k ≡ verdictNumber v) (rows : List (Bool × ℕ)) (f : Refusals rows) (b : Bool) (is : v ≡ judged (firstOf rows) b) where
+  pub told-accepted : (k ≡ 0) ↔ (v ≡ Accepted)
+  told-accepted = (λ z. is ∙ zero-accepted rows f b (sym (ap verdictNumber is) ∙ sym e ∙ z), λ d. e ∙ ap verdictNumber d)
+
+  pub told-rejected : (k ≡ 255) ↔ (v ≡ Rejected)
+  told-rejected = (λ z. is ∙ last-rejected rows f b (sym (ap verdictNumber is) ∙ sym e ∙ z), λ d. e ∙ ap verdictNumber d)
+
+-- one equivalence after another
+pub both : {A B C : Type 0} → A ↔ B → B ↔ C → A ↔ C
+both f g = (λ a. g .0 (f .0 a), λ c. f .1 (g .1 c))

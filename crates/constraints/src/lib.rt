@@ -17,6 +17,7 @@ ghost use Rattle.constraints.specs.Truth.{Truth};
 use field::FIRST;
 use key::Key;
 use refusal::Answer;
+use refusal::Refusal;
 
 // Words of work space, at the widest level: d + 1 coefficients, or one value, for each of 2^d columns.
 const POLYNOMIALS: usize = 5376;
@@ -62,10 +63,12 @@ fn constraints_refused(
         return sizes;
     }
     let lengths = constraints_lengths(key, h, x, positions, u, v, t, p);
+    if lengths != 0 {
+        return Answer::Refused(Refusal::LENGTH);
+    }
     let elements = field::excess(h, FIRST) | field::excess(x, FIRST);
     let positions = key::over(positions, key.degree());
-    key::checks(
-        lengths,
+    key::contents(
         elements,
         key::over(u, 1),
         field::excess(v, FIRST),
@@ -109,9 +112,12 @@ fn values_refused(
         return sizes;
     }
     let lengths = values_lengths(key, h, x, t, q, delta, p);
+    if lengths != 0 {
+        return Answer::Refused(Refusal::LENGTH);
+    }
     let elements = field::excess(h, FIRST) | field::excess(x, FIRST);
     let coordinates = field::excess(q, FIRST) | field::excess(delta, FIRST);
-    key::checks(lengths, elements, key::over(t, 1), coordinates, 0)
+    key::contents(elements, key::over(t, 1), coordinates, 0)
 }
 
 // Writes the masked witness.

@@ -1,15 +1,15 @@
 -- The rows of an entry that takes a key: sizes, and then refusals 3 to 7.
-use mathlib.Core.Path.{_≡_, sym, _∙_}
-use mathlib.Core.Bool.{Bool, true}
+use mathlib.Core.Path.{_≡_, sym, ap, _∙_}
+use mathlib.Core.Bool.{Bool, true, false, not}
 use mathlib.Core.List.{_++_}
 use borrow.Author.Tests.{not-false}
-use Rattle.refusal.specs.Answer.{firstOf}
+use Rattle.refusal.specs.Answer.{refusal, firstOf}
 use Rattle.refusal.specs.declared.Answer.{Answer}
 use Rattle.refusal.specs.declared.Answer.the-variants.{Done}
-use Rattle.refusal.proofs.Answers.{none, after-done}
+use Rattle.refusal.proofs.Answers.{none, after-done, pass, stop}
 use Rattle.field.specs.declared.Level.{Level}
 use Rattle.key.specs.declared.Key.{Key}
-use Rattle.key.specs.Key.{sizes, checks, Sized}
+use Rattle.key.specs.Key.{sizes, contents, checks, Sized}
 use Rattle.key.proofs.Sized.{sized, sizes-done}
 
 module _ (l : Level) (key : Key) where
@@ -41,7 +41,13 @@ module _ (l : Level) (key : Key) where
     checked-done c = after-done (sizes l key) (checks slices elements bits coordinates positions) (sizes-done l key (c .is-sized))
         ∙ (λ t. firstOf (checks (c .slices-fine t) (c .elements-fine t) (c .bits-fine t) (c .coordinates-fine t) (c .positions-fine t)))
 
-    -- past the sizes, the checks decide; each is told by the test of a number
-    pub told : firstOf (sizes l key) ≡ Done → {a b c d e : Bool} {r : Answer} → r ≡ firstOf (checks a b c d e) → a ≡ slices → b ≡ elements → c ≡ bits → d ≡ coordinates → e ≡ positions
+    -- past the sizes, a wrong length refuses
+    pub told-length : firstOf (sizes l key) ≡ Done → slices ≡ false → refusal 3 ≡ firstOf (sizes l key ++ checks slices elements bits coordinates positions)
+    told-length h s = sym (after-done (sizes l key) (checks slices elements bits coordinates positions) h ∙ stop 3 (contents elements bits coordinates positions) (ap not s))
+
+    -- past the lengths, the contents decide; each is told by the test of a number
+    pub told : firstOf (sizes l key) ≡ Done → slices ≡ true → {b c d e : Bool} {r : Answer} → r ≡ firstOf (contents b c d e) → b ≡ elements → c ≡ bits → d ≡ coordinates → e ≡ positions
         → r ≡ firstOf (sizes l key ++ checks slices elements bits coordinates positions)
-    told h r p q s t u = r ∙ (λ i. firstOf (checks (p i) (q i) (s i) (t i) (u i))) ∙ sym (after-done (sizes l key) (checks slices elements bits coordinates positions) h)
+    told h s r p q t u =
+        r ∙ (λ i. firstOf (contents (p i) (q i) (t i) (u i)))
+        ∙ sym (after-done (sizes l key) (checks slices elements bits coordinates positions) h ∙ pass 3 (contents elements bits coordinates positions) (ap not s))

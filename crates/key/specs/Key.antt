@@ -60,8 +60,11 @@ withins l (s ∷ others) = within l s && withins l others
 unfoldable pub below : ℕ → List ℕ → Bool
 below k s = all (λ b. ltb b (2 ^ k)) s
 
--- places 'slices', 'key' and 'material', a row for each number; of each whether it is in order:
--- 3 "a lent slice isn't of its stated length", 4 "an element of H or x is above 2047", 5 "a byte of u or t is above 1",
--- 6 "a coordinate of an element of K is above 2047", 7 "a position is 2^d or more"
+-- places 'key' and 'material', a row for each number; of each whether it is in order: 4 "an element of H or x is above 2047",
+-- 5 "a byte of u or t is above 1", 6 "a coordinate of an element of K is above 2047", 7 "a position is 2^d or more"
+abbrev pub contents : (key bits coordinates positions : Bool) → List (Bool × ℕ)
+contents key bits coordinates positions = (not key, 4) ∷ (not bits, 5) ∷ (not coordinates, 6) ∷ (not positions, 7) ∷ []
+
+-- and place 'slices' before them: 3 "a lent slice isn't of its stated length"
 abbrev pub checks : (slices key bits coordinates positions : Bool) → List (Bool × ℕ)
-checks slices key bits coordinates positions = (not slices, 3) ∷ (not key, 4) ∷ (not bits, 5) ∷ (not coordinates, 6) ∷ (not positions, 7) ∷ []
+checks slices key bits coordinates positions = (not slices, 3) ∷ contents key bits coordinates positions

@@ -4,7 +4,7 @@ ghost use Prim.Native.Nat.{_+_, _≤_, _<_};
 ghost use lib.Dec.{eqb};
 ghost use Rattle.refusal.specs.Answer.{firstOf};
 ghost use Rattle.field.specs.Level.{levelAt};
-ghost use Rattle.key.specs.Key.{degree, lengths, sizes, Sized, below, checks};
+ghost use Rattle.key.specs.Key.{degree, lengths, sizes, Sized, below, contents};
 use field::Level;
 use refusal::Answer;
 use refusal::Refusal;
@@ -102,13 +102,10 @@ pub fn over(s: &[u8], digits: usize) -> u8
     any >> digits
 }
 
-// The first of refusals 3 to 7 that applies; each is told by a number that is zero where it does not.
-pub fn checks(slices: usize, elements: u16, bits: u8, coordinates: u16, positions: u8) -> Answer
-    ensures { λ r. ⌜ r ≡ firstOf (checks (eqb slices 0) (eqb elements 0) (eqb bits 0) (eqb coordinates 0) (eqb positions 0)) ⌝ }
+// The first of refusals 4 to 7 that applies; each is told by a number that is zero where it does not.
+pub fn contents(elements: u16, bits: u8, coordinates: u16, positions: u8) -> Answer
+    ensures { λ r. ⌜ r ≡ firstOf (contents (eqb elements 0) (eqb bits 0) (eqb coordinates 0) (eqb positions 0)) ⌝ }
 {
-    if slices != 0 {
-        return Answer::Refused(Refusal::LENGTH);
-    }
     if elements != 0 {
         return Answer::Refused(Refusal::KEY);
     }

@@ -71,11 +71,14 @@ fn refused(
         return sizes;
     }
     let slices = lengths(key, h, x, positions, u, v, r, s, alpha, t, a);
+    if slices != 0 {
+        return Answer::Refused(Refusal::LENGTH);
+    }
     let elements = field::excess(h, FIRST) | field::excess(x, FIRST);
     let coordinates = field::excess(v, FIRST)
         | (field::excess(r, FIRST) | (field::excess(s, FIRST) | field::excess(alpha, FIRST)));
     let positions = key::over(positions, key.degree());
-    key::checks(slices, elements, key::over(u, 1), coordinates, positions)
+    key::contents(elements, key::over(u, 1), coordinates, positions)
 }
 
 // Zero exactly when all n + m top coefficients are zero; they do not depend on the offsets. p is room for them, work for 2^d elements.

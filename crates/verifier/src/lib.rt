@@ -15,6 +15,7 @@ use field::FIRST;
 use folding::values;
 use key::Key;
 use refusal::Answer;
+use refusal::Refusal;
 use refusal::Verdict;
 use row::elements;
 
@@ -61,12 +62,15 @@ fn refused(
         return sizes;
     }
     let slices = lengths(key, h, x, t, q, delta, masks, alpha, a);
+    if slices != 0 {
+        return Answer::Refused(Refusal::LENGTH);
+    }
     let elements = field::excess(h, FIRST) | field::excess(x, FIRST);
     let coordinates = field::excess(q, FIRST)
         | (field::excess(delta, FIRST)
             | (field::excess(masks, FIRST)
                 | (field::excess(alpha, FIRST) | field::excess(a, FIRST))));
-    key::checks(slices, elements, key::over(t, 1), coordinates, 0)
+    key::contents(elements, key::over(t, 1), coordinates, 0)
 }
 
 // Zero exactly when a at the challenge equals the weighted sum of the values plus the mask sum. The last four slices are room for an

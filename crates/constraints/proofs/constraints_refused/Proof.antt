@@ -8,10 +8,11 @@ use Rattle.field.proofs.Fields.{bounded}
 use Rattle.key.specs.Key.{degree, lengths, sizes, Sized, below, withins, checks}
 use Rattle.key.proofs.Sized.{sized, degree-lt}
 use Rattle.key.proofs.Fine.{withins-more, withins-last}
-use Rattle.key.proofs.Checked.{told}
+use Rattle.key.proofs.Checked.{told, told-length}
 use Rattle.constraints.specs.Entry.{constraintsLent}
 use mathlib.Core.Path.{_≡_, sym, ap, _∙_}
 use native.Mathlib.Omega.{arith}
+use borrow.Author.Tests.{eq-eqb, ne-eqb}
 use borrow.Author.Needs.{needs}
 use Rattle.constraints.proofs.constraints_refused.Statement.{statement}
 use Rattle.constraints.proofs.constraints_refused.Tie as tie
@@ -42,6 +43,12 @@ enum-told-2 c = search needs
 constraints-lengths-requires : tie.Need-constraints-lengths-requires
 constraints-lengths-requires c κs = is-sized c
 
+returns-2 : tie.Need-returns-2
+returns-2 c =
+    let a = c .before .before .before .before .before .before .before .before .before .before .before .before .args in
+    told-length (levelAt FIRST) (a .key) (long (constraintsLent (lengths (levelAt FIRST) (a .key)) (a .h .now) (a .x .now) (a .positions .now) (a .u .now) (a .v .now) (a .t .now) (a .p .now))) (withins (levelAt FIRST) (a .h .now ∷ a .x .now ∷ [])) (below 1 (a .u .now)) (withins (levelAt FIRST) (a .v .now ∷ [])) (below (degree (a .key .n)) (a .positions .now))
+    (passed (c .before .before)) (sym (c .before .constraints-lengths .ensures) ∙ ne-eqb (c .before .constraints-lengths .result) 0 (c .if1 .taken))
+
 excess-requires : tie.Need-excess-requires
 excess-requires c κs = search needs
 
@@ -49,13 +56,13 @@ excess-requires-2 : tie.Need-excess-requires-2
 excess-requires-2 c κs = search needs
 
 degree-requires : tie.Need-degree-requires
-degree-requires c κs = omega (arith, is-sized (c .before .before .before) .two)
+degree-requires c κs = omega (arith, is-sized (c .before .before .before .before) .two)
 
 over-requires : tie.Need-over-requires
 over-requires c κs =
-    let s = is-sized (c .before .before .before .before) in
+    let s = is-sized (c .before .before .before .before .before) in
     let b = bounded FIRST in
-    omega (arith, c .degree .ensures, degree-lt (c .before .before .before .before .before .before .before .before .before .before .before .before .before .before .args .key .n) 8 (omega (arith, s .two)) (omega (arith, s .most, b .most)) (omega (arith, s .most, b .most)))
+    omega (arith, c .degree .ensures, degree-lt (c .before .before .before .before .before .before .before .before .before .before .before .before .before .before .before .args .key .n) 8 (omega (arith, s .two)) (omega (arith, s .most, b .most)) (omega (arith, s .most, b .most)))
 
 over-requires-2 : tie.Need-over-requires-2
 over-requires-2 c κs = search needs
@@ -63,17 +70,15 @@ over-requires-2 c κs = search needs
 excess-requires-3 : tie.Need-excess-requires-3
 excess-requires-3 c κs = search needs
 
-checks-requires : tie.Need-checks-requires
-checks-requires c κs = search needs
+contents-requires : tie.Need-contents-requires
+contents-requires c κs = search needs
 
-returns-2 : tie.Need-returns-2
-returns-2 c =
-    let a = c .before .before .before .before .before .before .before .before .before .before .before .before .before .before .before .before .before .before .args in
+returns-3 : tie.Need-returns-3
+returns-3 c =
+    let a = c .before .before .before .before .before .before .before .before .before .before .before .before .before .before .before .before .before .before .before .args in
     let e = c .before .before .before .before .before .before in
     told (levelAt FIRST) (a .key) (long (constraintsLent (lengths (levelAt FIRST) (a .key)) (a .h .now) (a .x .now) (a .positions .now) (a .u .now) (a .v .now) (a .t .now) (a .p .now))) (withins (levelAt FIRST) (a .h .now ∷ a .x .now ∷ [])) (below 1 (a .u .now)) (withins (levelAt FIRST) (a .v .now ∷ [])) (below (degree (a .key .n)) (a .positions .now))
-    (passed (e .before .before))
-    (c .checks .ensures)
-    (e .before .constraints-lengths .ensures)
+    (passed (e .before .before .before)) (sym (e .before .before .constraints-lengths .ensures) ∙ eq-eqb (e .before .before .constraints-lengths .result) 0 (e .before .if1 .left)) (c .contents .ensures)
     (withins-more (levelAt FIRST) (a .h .now) (a .x .now ∷ []) (e .excess .result) (c .before .before .before .before .before .excess2 .result) (e .excess .ensures) (withins-last (levelAt FIRST) (a .x .now) (c .before .before .before .before .before .excess2 .result) (c .before .before .before .before .before .excess2 .ensures)))
     (c .before .before .over2 .ensures)
     (withins-last (levelAt FIRST) (a .v .now) (c .before .excess3 .result) (c .before .excess3 .ensures))
@@ -88,11 +93,12 @@ constraints-refused-spec =
     returns
     enum-told-2
     constraints-lengths-requires
+    returns-2
     excess-requires
     excess-requires-2
     degree-requires
     over-requires
     over-requires-2
     excess-requires-3
-    checks-requires
-    returns-2)
+    contents-requires
+    returns-3)

@@ -8,9 +8,10 @@ use Rattle.field.specs.Level.{FIRST, levelAt}
 use Rattle.key.specs.Key.{lengths, sizes, Sized, below, withins, checks}
 use Rattle.key.proofs.Sized.{sized}
 use Rattle.key.proofs.Fine.{withins-more, withins-last}
-use Rattle.key.proofs.Checked.{told}
+use Rattle.key.proofs.Checked.{told, told-length}
 use Rattle.constraints.specs.Entry.{valuesLent}
 use mathlib.Core.Path.{_≡_, refl, sym, _∙_}
+use borrow.Author.Tests.{eq-eqb, ne-eqb}
 use borrow.Author.Needs.{needs}
 use Rattle.constraints.proofs.values_refused.Statement.{statement}
 use Rattle.constraints.proofs.values_refused.Tie as tie
@@ -39,6 +40,12 @@ enum-told-2 c = search needs
 values-lengths-requires : tie.Need-values-lengths-requires
 values-lengths-requires c κs = is-sized c
 
+returns-2 : tie.Need-returns-2
+returns-2 c =
+    let a = c .before .before .before .before .before .before .before .before .before .before .before .args in
+    told-length (levelAt FIRST) (a .key) (long (valuesLent (lengths (levelAt FIRST) (a .key)) (a .h .now) (a .x .now) (a .t .now) (a .q .now) (a .delta .now) (a .p .now))) (withins (levelAt FIRST) (a .h .now ∷ a .x .now ∷ [])) (below 1 (a .t .now)) (withins (levelAt FIRST) (a .q .now ∷ a .delta .now ∷ [])) true
+    (passed (c .before .before)) (sym (c .before .values-lengths .ensures) ∙ ne-eqb (c .before .values-lengths .result) 0 (c .if1 .taken))
+
 excess-requires : tie.Need-excess-requires
 excess-requires c κs = search needs
 
@@ -54,13 +61,14 @@ excess-requires-4 c κs = search needs
 over-requires : tie.Need-over-requires
 over-requires c κs = search needs
 
-checks-requires : tie.Need-checks-requires
-checks-requires c κs = search needs
+contents-requires : tie.Need-contents-requires
+contents-requires c κs = search needs
 
-returns-2 : tie.Need-returns-2
-returns-2 c =
-    let a = c .before .before .before .before .before .before .before .before .before .before .before .before .before .before .before .before .args in
-    told (levelAt FIRST) (a .key) (long (valuesLent (lengths (levelAt FIRST) (a .key)) (a .h .now) (a .x .now) (a .t .now) (a .q .now) (a .delta .now) (a .p .now))) (withins (levelAt FIRST) (a .h .now ∷ a .x .now ∷ [])) (below 1 (a .t .now)) (withins (levelAt FIRST) (a .q .now ∷ a .delta .now ∷ [])) true (passed (c .before .before .before .before .before .before .before)) (c .checks .ensures) (c .before .before .before .before .before .before .values-lengths .ensures)
+returns-3 : tie.Need-returns-3
+returns-3 c =
+    let a = c .before .before .before .before .before .before .before .before .before .before .before .before .before .before .before .before .before .args in
+    told (levelAt FIRST) (a .key) (long (valuesLent (lengths (levelAt FIRST) (a .key)) (a .h .now) (a .x .now) (a .t .now) (a .q .now) (a .delta .now) (a .p .now))) (withins (levelAt FIRST) (a .h .now ∷ a .x .now ∷ [])) (below 1 (a .t .now)) (withins (levelAt FIRST) (a .q .now ∷ a .delta .now ∷ [])) true
+    (passed (c .before .before .before .before .before .before .before .before)) (sym (c .before .before .before .before .before .before .before .values-lengths .ensures) ∙ eq-eqb (c .before .before .before .before .before .before .before .values-lengths .result) 0 (c .before .before .before .before .before .before .if1 .left)) (c .contents .ensures)
     (withins-more (levelAt FIRST) (a .h .now) (a .x .now ∷ []) (c .before .before .before .before .before .excess .result) (c .before .before .before .before .excess2 .result) (c .before .before .before .before .before .excess .ensures) (withins-last (levelAt FIRST) (a .x .now) (c .before .before .before .before .excess2 .result) (c .before .before .before .before .excess2 .ensures)))
     (c .before .over .ensures)
     (withins-more (levelAt FIRST) (a .q .now) (a .delta .now ∷ []) (c .before .before .before .excess3 .result) (c .before .before .excess4 .result) (c .before .before .before .excess3 .ensures) (withins-last (levelAt FIRST) (a .delta .now) (c .before .before .excess4 .result) (c .before .before .excess4 .ensures)))
@@ -75,10 +83,11 @@ values-refused-spec =
     returns
     enum-told-2
     values-lengths-requires
+    returns-2
     excess-requires
     excess-requires-2
     excess-requires-3
     excess-requires-4
     over-requires
-    checks-requires
-    returns-2)
+    contents-requires
+    returns-3)

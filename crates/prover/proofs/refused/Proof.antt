@@ -9,10 +9,11 @@ use Rattle.field.proofs.Fields.{bounded}
 use Rattle.key.specs.Key.{degree, lengths, sizes, Sized, below, withins, checks}
 use Rattle.key.proofs.Sized.{sized, degree-lt}
 use Rattle.key.proofs.Fine.{withins-more, withins-last}
-use Rattle.key.proofs.Checked.{told}
+use Rattle.key.proofs.Checked.{told, told-length}
 use Rattle.prover.specs.Entry.{proveLent}
 use mathlib.Core.Path.{_≡_, sym, ap, _∙_}
 use native.Mathlib.Omega.{arith}
+use borrow.Author.Tests.{eq-eqb, ne-eqb}
 use borrow.Author.Needs.{needs}
 use Rattle.prover.proofs.refused.Statement.{statement}
 use Rattle.prover.proofs.refused.Tie as tie
@@ -41,6 +42,12 @@ enum-told-2 c = search needs
 lengths-requires : tie.Need-lengths-requires
 lengths-requires c κs = is-sized c
 
+returns-2 : tie.Need-returns-2
+returns-2 c =
+    let a = c .before .before .before .before .before .before .before .before .before .before .before .before .before .before .before .args in
+    told-length (levelAt FIRST) (a .key) (long (proveLent (lengths (levelAt FIRST) (a .key)) (a .h .now) (a .x .now) (a .positions .now) (a .u .now) (a .v .now) (a .r .now) (a .s .now) (a .alpha .now) (a .t .now) (a .a .now))) (withins (levelAt FIRST) (a .h .now ∷ a .x .now ∷ [])) (below 1 (a .u .now)) (withins (levelAt FIRST) (a .v .now ∷ a .r .now ∷ a .s .now ∷ a .alpha .now ∷ [])) (below (degree (a .key .n)) (a .positions .now))
+    (passed (c .before .before)) (sym (c .before .lengths .ensures) ∙ ne-eqb (c .before .lengths .result) 0 (c .if1 .taken))
+
 excess-requires : tie.Need-excess-requires
 excess-requires c κs = search needs
 
@@ -60,24 +67,25 @@ excess-requires-6 : tie.Need-excess-requires-6
 excess-requires-6 c κs = search needs
 
 degree-requires : tie.Need-degree-requires
-degree-requires c κs = omega (arith, is-sized (c .before .before .before .before .before .before .before) .two)
+degree-requires c κs = omega (arith, is-sized (c .before .before .before .before .before .before .before .before) .two)
 
 over-requires : tie.Need-over-requires
 over-requires c κs =
-    let s = is-sized (c .before .before .before .before .before .before .before .before) in
+    let s = is-sized (c .before .before .before .before .before .before .before .before .before) in
     let b = bounded FIRST in
-    omega (arith, c .degree .ensures, degree-lt (c .before .before .before .before .before .before .before .before .before .before .before .before .before .before .before .before .before .before .before .before .before .args .key .n) 8 (omega (arith, s .two)) (omega (arith, s .most, b .most)) (omega (arith, s .most, b .most)))
+    omega (arith, c .degree .ensures, degree-lt (c .before .before .before .before .before .before .before .before .before .before .before .before .before .before .before .before .before .before .before .before .before .before .args .key .n) 8 (omega (arith, s .two)) (omega (arith, s .most, b .most)) (omega (arith, s .most, b .most)))
 
 over-requires-2 : tie.Need-over-requires-2
 over-requires-2 c κs = search needs
 
-checks-requires : tie.Need-checks-requires
-checks-requires c κs = search needs
+contents-requires : tie.Need-contents-requires
+contents-requires c κs = search needs
 
-returns-2 : tie.Need-returns-2
-returns-2 c =
-    let a = c .before .before .before .before .before .before .before .before .before .before .before .before .before .before .before .before .before .before .before .before .before .before .before .before .args in
-    told (levelAt FIRST) (a .key) (long (proveLent (lengths (levelAt FIRST) (a .key)) (a .h .now) (a .x .now) (a .positions .now) (a .u .now) (a .v .now) (a .r .now) (a .s .now) (a .alpha .now) (a .t .now) (a .a .now))) (withins (levelAt FIRST) (a .h .now ∷ a .x .now ∷ [])) (below 1 (a .u .now)) (withins (levelAt FIRST) (a .v .now ∷ a .r .now ∷ a .s .now ∷ a .alpha .now ∷ [])) (below (degree (a .key .n)) (a .positions .now)) (passed (c .before .before .before .before .before .before .before .before .before .before .before)) (c .checks .ensures) (c .before .before .before .before .before .before .before .before .before .before .lengths .ensures)
+returns-3 : tie.Need-returns-3
+returns-3 c =
+    let a = c .before .before .before .before .before .before .before .before .before .before .before .before .before .before .before .before .before .before .before .before .before .before .before .before .before .args in
+    told (levelAt FIRST) (a .key) (long (proveLent (lengths (levelAt FIRST) (a .key)) (a .h .now) (a .x .now) (a .positions .now) (a .u .now) (a .v .now) (a .r .now) (a .s .now) (a .alpha .now) (a .t .now) (a .a .now))) (withins (levelAt FIRST) (a .h .now ∷ a .x .now ∷ [])) (below 1 (a .u .now)) (withins (levelAt FIRST) (a .v .now ∷ a .r .now ∷ a .s .now ∷ a .alpha .now ∷ [])) (below (degree (a .key .n)) (a .positions .now))
+    (passed (c .before .before .before .before .before .before .before .before .before .before .before .before)) (sym (c .before .before .before .before .before .before .before .before .before .before .before .lengths .ensures) ∙ eq-eqb (c .before .before .before .before .before .before .before .before .before .before .before .lengths .result) 0 (c .before .before .before .before .before .before .before .before .before .before .if1 .left)) (c .contents .ensures)
     (withins-more (levelAt FIRST) (a .h .now) (a .x .now ∷ []) (c .before .before .before .before .before .before .before .before .before .excess .result) (c .before .before .before .before .before .before .before .before .excess2 .result) (c .before .before .before .before .before .before .before .before .before .excess .ensures) (withins-last (levelAt FIRST) (a .x .now) (c .before .before .before .before .before .before .before .before .excess2 .result) (c .before .before .before .before .before .before .before .before .excess2 .ensures)))
     (c .before .over2 .ensures)
     (withins-more (levelAt FIRST) (a .v .now) (a .r .now ∷ a .s .now ∷ a .alpha .now ∷ []) (c .before .before .before .before .before .before .before .excess3 .result) (bitOr (c .before .before .before .before .before .before .excess4 .result) (bitOr (c .before .before .before .before .before .excess5 .result) (c .before .before .before .before .excess6 .result))) (c .before .before .before .before .before .before .before .excess3 .ensures) (withins-more (levelAt FIRST) (a .r .now) (a .s .now ∷ a .alpha .now ∷ []) (c .before .before .before .before .before .before .excess4 .result) (bitOr (c .before .before .before .before .before .excess5 .result) (c .before .before .before .before .excess6 .result)) (c .before .before .before .before .before .before .excess4 .ensures) (withins-more (levelAt FIRST) (a .s .now) (a .alpha .now ∷ []) (c .before .before .before .before .before .excess5 .result) (c .before .before .before .before .excess6 .result) (c .before .before .before .before .before .excess5 .ensures) (withins-last (levelAt FIRST) (a .alpha .now) (c .before .before .before .before .excess6 .result) (c .before .before .before .before .excess6 .ensures)))))
@@ -92,6 +100,7 @@ refused-spec =
     returns
     enum-told-2
     lengths-requires
+    returns-2
     excess-requires
     excess-requires-2
     excess-requires-3
@@ -101,5 +110,5 @@ refused-spec =
     degree-requires
     over-requires
     over-requires-2
-    checks-requires
-    returns-2)
+    contents-requires
+    returns-3)

@@ -9,9 +9,10 @@ use Rattle.field.specs.Level.{FIRST, levelAt}
 use Rattle.key.specs.Key.{lengths, sizes, Sized, below, withins, checks}
 use Rattle.key.proofs.Sized.{sized}
 use Rattle.key.proofs.Fine.{withins-more, withins-last}
-use Rattle.key.proofs.Checked.{told}
+use Rattle.key.proofs.Checked.{told, told-length}
 use Rattle.verifier.specs.Entry.{verifyLent}
 use mathlib.Core.Path.{_≡_, refl, sym, _∙_}
+use borrow.Author.Tests.{eq-eqb, ne-eqb}
 use borrow.Author.Needs.{needs}
 use Rattle.verifier.proofs.refused.Statement.{statement}
 use Rattle.verifier.proofs.refused.Tie as tie
@@ -40,6 +41,12 @@ enum-told-2 c = search needs
 lengths-requires : tie.Need-lengths-requires
 lengths-requires c κs = is-sized c
 
+returns-2 : tie.Need-returns-2
+returns-2 c =
+    let a = c .before .before .before .before .before .before .before .before .before .before .before .before .before .args in
+    told-length (levelAt FIRST) (a .key) (long (verifyLent (lengths (levelAt FIRST) (a .key)) (a .h .now) (a .x .now) (a .t .now) (a .q .now) (a .delta .now) (a .masks .now) (a .alpha .now) (a .a .now))) (withins (levelAt FIRST) (a .h .now ∷ a .x .now ∷ [])) (below 1 (a .t .now)) (withins (levelAt FIRST) (a .q .now ∷ a .delta .now ∷ a .masks .now ∷ a .alpha .now ∷ a .a .now ∷ [])) true
+    (passed (c .before .before)) (sym (c .before .lengths .ensures) ∙ ne-eqb (c .before .lengths .result) 0 (c .if1 .taken))
+
 excess-requires : tie.Need-excess-requires
 excess-requires c κs = search needs
 
@@ -64,13 +71,14 @@ excess-requires-7 c κs = search needs
 over-requires : tie.Need-over-requires
 over-requires c κs = search needs
 
-checks-requires : tie.Need-checks-requires
-checks-requires c κs = search needs
+contents-requires : tie.Need-contents-requires
+contents-requires c κs = search needs
 
-returns-2 : tie.Need-returns-2
-returns-2 c =
-    let a = c .before .before .before .before .before .before .before .before .before .before .before .before .before .before .before .before .before .before .before .before .before .args in
-    told (levelAt FIRST) (a .key) (long (verifyLent (lengths (levelAt FIRST) (a .key)) (a .h .now) (a .x .now) (a .t .now) (a .q .now) (a .delta .now) (a .masks .now) (a .alpha .now) (a .a .now))) (withins (levelAt FIRST) (a .h .now ∷ a .x .now ∷ [])) (below 1 (a .t .now)) (withins (levelAt FIRST) (a .q .now ∷ a .delta .now ∷ a .masks .now ∷ a .alpha .now ∷ a .a .now ∷ [])) true (passed (c .before .before .before .before .before .before .before .before .before .before)) (c .checks .ensures) (c .before .before .before .before .before .before .before .before .before .lengths .ensures)
+returns-3 : tie.Need-returns-3
+returns-3 c =
+    let a = c .before .before .before .before .before .before .before .before .before .before .before .before .before .before .before .before .before .before .before .before .before .before .args in
+    told (levelAt FIRST) (a .key) (long (verifyLent (lengths (levelAt FIRST) (a .key)) (a .h .now) (a .x .now) (a .t .now) (a .q .now) (a .delta .now) (a .masks .now) (a .alpha .now) (a .a .now))) (withins (levelAt FIRST) (a .h .now ∷ a .x .now ∷ [])) (below 1 (a .t .now)) (withins (levelAt FIRST) (a .q .now ∷ a .delta .now ∷ a .masks .now ∷ a .alpha .now ∷ a .a .now ∷ [])) true
+    (passed (c .before .before .before .before .before .before .before .before .before .before .before)) (sym (c .before .before .before .before .before .before .before .before .before .before .lengths .ensures) ∙ eq-eqb (c .before .before .before .before .before .before .before .before .before .before .lengths .result) 0 (c .before .before .before .before .before .before .before .before .before .if1 .left)) (c .contents .ensures)
     (withins-more (levelAt FIRST) (a .h .now) (a .x .now ∷ []) (c .before .before .before .before .before .before .before .before .excess .result) (c .before .before .before .before .before .before .before .excess2 .result) (c .before .before .before .before .before .before .before .before .excess .ensures) (withins-last (levelAt FIRST) (a .x .now) (c .before .before .before .before .before .before .before .excess2 .result) (c .before .before .before .before .before .before .before .excess2 .ensures)))
     (c .before .over .ensures)
     (withins-more (levelAt FIRST) (a .q .now) (a .delta .now ∷ a .masks .now ∷ a .alpha .now ∷ a .a .now ∷ []) (c .before .before .before .before .before .before .excess3 .result) (bitOr (c .before .before .before .before .before .excess4 .result) (bitOr (c .before .before .before .before .excess5 .result) (bitOr (c .before .before .before .excess6 .result) (c .before .before .excess7 .result)))) (c .before .before .before .before .before .before .excess3 .ensures) (withins-more (levelAt FIRST) (a .delta .now) (a .masks .now ∷ a .alpha .now ∷ a .a .now ∷ []) (c .before .before .before .before .before .excess4 .result) (bitOr (c .before .before .before .before .excess5 .result) (bitOr (c .before .before .before .excess6 .result) (c .before .before .excess7 .result))) (c .before .before .before .before .before .excess4 .ensures) (withins-more (levelAt FIRST) (a .masks .now) (a .alpha .now ∷ a .a .now ∷ []) (c .before .before .before .before .excess5 .result) (bitOr (c .before .before .before .excess6 .result) (c .before .before .excess7 .result)) (c .before .before .before .before .excess5 .ensures) (withins-more (levelAt FIRST) (a .alpha .now) (a .a .now ∷ []) (c .before .before .before .excess6 .result) (c .before .before .excess7 .result) (c .before .before .before .excess6 .ensures) (withins-last (levelAt FIRST) (a .a .now) (c .before .before .excess7 .result) (c .before .before .excess7 .ensures))))))
@@ -85,6 +93,7 @@ refused-spec =
     returns
     enum-told-2
     lengths-requires
+    returns-2
     excess-requires
     excess-requires-2
     excess-requires-3
@@ -93,5 +102,5 @@ refused-spec =
     excess-requires-6
     excess-requires-7
     over-requires
-    checks-requires
-    returns-2)
+    contents-requires
+    returns-3)

@@ -1,0 +1,102 @@
+/*
+ * Lengths are decided before a slice is read: each slice ends where memory ends, and where its stated length is too long, as a length in bytes
+ * for one in words is, the answer is 3 and nothing past the end is read. Prints how many calls were made.
+ */
+#include <stdint.h>
+#include <stdio.h>
+#include <stdlib.h>
+#include <string.h>
+#include <sys/mman.h>
+#include <unistd.h>
+#include "perk.h"
+
+enum { N = 5, M = 2, D = 3, W = 12, MOST = 10, LENGTH = 3 };
+
+/* a slice: how many elements of which size it has, and the length that is told */
+struct slice {
+    size_t count, size;
+    void *start;
+    size_t told;
+};
+
+#define WORDS(s) (const uint16_t *)(s).start, (s).told
+#define BYTES(s) (const uint8_t *)(s).start, (s).told
+#define WORDS_OUT(s) (uint16_t *)(s).start, (s).told
+#define BYTES_OUT(s) (uint8_t *)(s).start, (s).told
+
+static uint32_t sum(struct slice *s) { return perk_sum(WORDS(s[0]), WORDS(s[1]), WORDS_OUT(s[2])); }
+static uint32_t product(struct slice *s) { return perk_product(WORDS(s[0]), WORDS(s[1]), WORDS_OUT(s[2])); }
+static uint32_t constraints(struct slice *s) {
+    return perk_constraints(N, M, WORDS(s[0]), WORDS(s[1]), BYTES(s[2]), BYTES(s[3]), WORDS(s[4]), BYTES_OUT(s[5]), WORDS_OUT(s[6]));
+}
+static uint32_t values(struct slice *s) {
+    return perk_values(N, M, WORDS(s[0]), WORDS(s[1]), BYTES(s[2]), WORDS(s[3]), WORDS(s[4]), WORDS_OUT(s[5]));
+}
+static uint32_t prove(struct slice *s) {
+    return perk_prove(N, M, WORDS(s[0]), WORDS(s[1]), BYTES(s[2]), BYTES(s[3]), WORDS(s[4]), WORDS(s[5]), WORDS(s[6]), WORDS(s[7]),
+                      BYTES_OUT(s[8]), WORDS_OUT(s[9]));
+}
+static uint32_t verify(struct slice *s) {
+    return perk_verify(N, M, WORDS(s[0]), WORDS(s[1]), BYTES(s[2]), WORDS(s[3]), WORDS(s[4]), WORDS(s[5]), WORDS(s[6]), WORDS(s[7]));
+}
+
+#define F(count) {count, 2, NULL, 0}
+#define K(count) {W * (count), 2, NULL, 0}
+#define B(count) {count, 1, NULL, 0}
+
+static struct {
+    const char *name;
+    uint32_t (*call)(struct slice *);
+    struct slice slices[MOST];
+} entries[] = {
+    {"perk_sum", sum, {K(1), K(1), K(1)}},
+    {"perk_product", product, {K(1), K(1), K(1)}},
+    {"perk_constraints", constraints, {F(M * N), F(N), B(N), B(N * D), K(N * D), B(N * D), K((N + M) * (D + 1))}},
+    {"perk_values", values, {F(M * N), F(N), B(N * D), K(N * D), K(1), K(N + M)}},
+    {"perk_prove", prove, {F(M * N), F(N), B(N), B(N * D), K(N * D), K(D - 1), K(D - 1), K(N + M), B(N * D), K(D)}},
+    {"perk_verify", verify, {F(M * N), F(N), B(N * D), K(N * D), K(1), K(D - 1), K(N + M), K(D)}},
+};
+
+/* zeros that end where a page begins that cannot be read */
+static void place(struct slice *s) {
+    size_t page = (size_t)sysconf(_SC_PAGESIZE), bytes = s->count * s->size, pages = (bytes + page - 1) / page;
+    uint8_t *start = mmap(NULL, (pages + 1) * page, PROT_READ | PROT_WRITE, MAP_PRIVATE | MAP_ANONYMOUS, -1, 0);
+    if (start == MAP_FAILED || mprotect(start + pages * page, page, PROT_NONE) != 0) exit(2);
+    s->start = start + pages * page - bytes;
+    s->told = s->count;
+}
+
+int main(void) {
+    unsigned calls = 0, failed = 0;
+    for (size_t e = 0; e < sizeof entries / sizeof *entries; e++) {
+        struct slice *s = entries[e].slices;
+        size_t slices = 0;
+        while (slices < MOST && s[slices].count > 0) place(&s[slices++]);
+        /* x is zero, so every order solves a key whose rows are unit rows; the third slice of a prover's entry holds the positions */
+        if (slices > 3)
+            for (size_t i = 0; i < M; i++) ((uint16_t *)s[0].start)[i * N + i] = 1;
+        if (s[2].count == N && s[2].size == 1)
+            for (size_t i = 0; i < N; i++) ((uint8_t *)s[2].start)[i] = (uint8_t)i;
+        uint32_t right = entries[e].call(s);
+        calls++;
+        if (right != 0 && right != 255) {
+            printf("%s: %u for right lengths\n", entries[e].name, (unsigned)right);
+            failed++;
+        }
+        for (size_t i = 0; i < slices; i++) {
+            const size_t wrong[] = {s[i].count + 1, 2 * s[i].count, s[i].count + 4096, SIZE_MAX / 2, s[i].count - 1, 0};
+            for (size_t k = 0; k < sizeof wrong / sizeof *wrong; k++) {
+                s[i].told = wrong[k];
+                uint32_t found = entries[e].call(s);
+                calls++;
+                if (found != LENGTH) {
+                    printf("%s: %u for length %zu of slice %zu\n", entries[e].name, (unsigned)found, wrong[k], i);
+                    failed++;
+                }
+            }
+            s[i].told = s[i].count;
+        }
+    }
+    printf("%u calls, %u failed\n", calls, failed);
+    return failed != 0;
+}

@@ -215,3 +215,11 @@ pub fn line(checked: Checked, out: &mut [u8]) -> usize
         }
     }
 }
+
+// What perkcheck prints for the bytes that it has read, at the start of out; answers its length, as `line` does.
+pub fn report(bytes: &[u8], out: &mut [u8]) -> usize
+    ensures printed { λ r. ⌜ (r, now (out .exit)) ≡ printed (checking (levelAt FIRST) (now (bytes .entry))) (now (out .entry)) ⌝ }
+    ensures fits { λ r. ⌜ (r ≤ length (now (out .exit))) × (r ≡ length (take r (now (out .exit)))) ⌝ }
+{
+    line(check(bytes), out)
+}

@@ -131,7 +131,7 @@ pub fn write_masked_witness(key: Key, positions: &[u8], u: &[u8], t: &mut [u8])
 }
 
 // Writes the polynomials.
-pub fn write_polynomials(key: Key, h: &[u16], x: &[u16], positions: &[u8], v: &[u16], p: &mut [u16])
+fn write_polynomials(key: Key, h: &[u16], x: &[u16], positions: &[u8], v: &[u16], p: &mut [u16])
     requires { ⌜ Sized (levelAt FIRST) key × LentKey (levelAt FIRST) (key .n) (key .m) (now h) (now x) × Words (levelAt FIRST) (now v) ⌝ }
     requires { ⌜ (length (now positions) ≡ lengths (levelAt FIRST) key .positions) × (length (now v) ≡ lengths (levelAt FIRST) key .elements) × (length (now p) ≡ lengths (levelAt FIRST) key .polynomials) ⌝ }
     ensures { λ _. ⌜ now (p .exit) ≡ polynomialWords (levelAt FIRST) (system (levelAt FIRST) key (now (h .entry)) (now (x .entry))) (witnessOf (key .n) (now (positions .entry))) (now (v .entry)) ⌝ }
@@ -168,15 +168,7 @@ pub fn constraints(
 }
 
 // Writes the values.
-pub fn write_values(
-    key: Key,
-    h: &[u16],
-    x: &[u16],
-    t: &[u8],
-    q: &[u16],
-    delta: &[u16],
-    p: &mut [u16],
-)
+fn write_values(key: Key, h: &[u16], x: &[u16], t: &[u8], q: &[u16], delta: &[u16], p: &mut [u16])
     requires { ⌜ Sized (levelAt FIRST) key × LentKey (levelAt FIRST) (key .n) (key .m) (now h) (now x) × Bits (now t) × Words (levelAt FIRST) (now q) × Words (levelAt FIRST) (now delta) ⌝ }
     requires { ⌜ (length (now t) ≡ lengths (levelAt FIRST) key .bits) × (length (now q) ≡ lengths (levelAt FIRST) key .elements) × (length (now delta) ≡ lengths (levelAt FIRST) key .one) × (length (now p) ≡ lengths (levelAt FIRST) key .values) ⌝ }
     ensures { λ _. ⌜ now (p .exit) ≡ valueWords (levelAt FIRST) (system (levelAt FIRST) key (now (h .entry)) (now (x .entry))) (now (t .entry)) (now (q .entry)) (now (delta .entry)) ⌝ }

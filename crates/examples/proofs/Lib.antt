@@ -2,4 +2,5 @@ pub mod Carried
 pub mod Decided
 pub mod KeyA
 pub mod Hold
+pub mod Readings
 pub mod Accepted

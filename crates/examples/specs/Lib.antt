@@ -1,1 +1,2 @@
+pub mod Readings
 pub mod Starred

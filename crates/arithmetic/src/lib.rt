@@ -15,13 +15,13 @@ fn refused(a: &[u16], b: &[u16], out: &[u16]) -> Answer
     let level = Level::of(FIRST);
     let n = level.coordinates;
     if a.len() != n {
-        return Answer::Refused(Refusal::LENGTH);
+        return Answer::Refused(Refusal::SLICE_LENGTH);
     }
     if b.len() != n {
-        return Answer::Refused(Refusal::LENGTH);
+        return Answer::Refused(Refusal::SLICE_LENGTH);
     }
     if out.len() != n {
-        return Answer::Refused(Refusal::LENGTH);
+        return Answer::Refused(Refusal::SLICE_LENGTH);
     }
     if field::excess(a, FIRST) != 0 {
         return Answer::Refused(Refusal::COORDINATE);

@@ -64,7 +64,7 @@ fn constraints_refused(
     }
     let lengths = constraints_lengths(key, h, x, positions, u, v, t, p);
     if lengths != 0 {
-        return Answer::Refused(Refusal::LENGTH);
+        return Answer::Refused(Refusal::SLICE_LENGTH);
     }
     let elements = field::excess(h, FIRST) | field::excess(x, FIRST);
     let positions = key::over(positions, key.degree());
@@ -113,7 +113,7 @@ fn values_refused(
     }
     let lengths = values_lengths(key, h, x, t, q, delta, p);
     if lengths != 0 {
-        return Answer::Refused(Refusal::LENGTH);
+        return Answer::Refused(Refusal::SLICE_LENGTH);
     }
     let elements = field::excess(h, FIRST) | field::excess(x, FIRST);
     let coordinates = field::excess(q, FIRST) | field::excess(delta, FIRST);

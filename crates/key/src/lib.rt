@@ -72,17 +72,17 @@ impl Key {
         let n = self.n;
         let m = self.m;
         if n < 2 {
-            return Answer::Refused(Refusal::SIZE);
+            return Answer::Refused(Refusal::SIZE_N);
         }
         let most = Level::of(level).most;
         if most < n {
-            return Answer::Refused(Refusal::SIZE);
+            return Answer::Refused(Refusal::SIZE_N);
         }
         if m == 0 {
-            return Answer::Refused(Refusal::ROWS);
+            return Answer::Refused(Refusal::SIZE_M);
         }
         if n <= m {
-            return Answer::Refused(Refusal::ROWS);
+            return Answer::Refused(Refusal::SIZE_M);
         }
         Answer::Done
     }
@@ -107,7 +107,7 @@ pub fn contents(elements: u16, bits: u8, coordinates: u16, positions: u8) -> Ans
     ensures { λ r. ⌜ r ≡ firstOf (contents (eqb elements 0) (eqb bits 0) (eqb coordinates 0) (eqb positions 0)) ⌝ }
 {
     if elements != 0 {
-        return Answer::Refused(Refusal::KEY);
+        return Answer::Refused(Refusal::KEY_ELEMENT);
     }
     if bits != 0 {
         return Answer::Refused(Refusal::BIT);

@@ -121,7 +121,7 @@ fn values(c: &[u8], kind: Kind) -> Answer
             if words_within(c) {
                 Answer::Done
             } else {
-                Answer::Refused(Refusal::KEY)
+                Answer::Refused(Refusal::KEY_ELEMENT)
             }
         }
         Kind::Any => Answer::Done,
@@ -151,7 +151,7 @@ fn read_row(s: &[u8], at: usize, row: Row) -> Answer
     let len = row.len;
     let kind = row.kind;
     if s.len() - at < 3 {
-        return Answer::Refused(Refusal::SHORT);
+        return Answer::Refused(Refusal::BYTES_MISSING);
     }
     let found = s[at];
     let stated = word_at(s, at + 1);
@@ -159,11 +159,11 @@ fn read_row(s: &[u8], at: usize, row: Row) -> Answer
         return Answer::Refused(Refusal::TAG);
     }
     if stated != len {
-        return Answer::Refused(Refusal::FIELD);
+        return Answer::Refused(Refusal::FIELD_LENGTH);
     }
     let start = at + 3;
     if s.len() - start < len {
-        return Answer::Refused(Refusal::SHORT);
+        return Answer::Refused(Refusal::BYTES_MISSING);
     }
     let end = start + len;
     values(&s[start..end], kind)
@@ -294,7 +294,7 @@ pub fn read_file(s: &[u8], count: usize) -> Answer
         Step::Refused(refusal) => Answer::Refused(refusal),
         Step::Next(end) => {
             if end < s.len() {
-                Answer::Refused(Refusal::END)
+                Answer::Refused(Refusal::BYTES_FOLLOW)
             } else {
                 Answer::Done
             }

@@ -72,7 +72,7 @@ fn refused(
     }
     let slices = lengths(key, h, x, positions, u, v, r, s, alpha, t, a);
     if slices != 0 {
-        return Answer::Refused(Refusal::LENGTH);
+        return Answer::Refused(Refusal::SLICE_LENGTH);
     }
     let elements = field::excess(h, FIRST) | field::excess(x, FIRST);
     let coordinates = field::excess(v, FIRST)

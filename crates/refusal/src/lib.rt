@@ -10,13 +10,13 @@ pub struct Refusal {
 
 impl Refusal {
     // n below 2 or above the level's largest
-    pub const SIZE: Refusal = Refusal { number: 1 };
+    pub const SIZE_N: Refusal = Refusal { number: 1 };
     // m is 0, or at least n
-    pub const ROWS: Refusal = Refusal { number: 2 };
+    pub const SIZE_M: Refusal = Refusal { number: 2 };
     // a lent slice isn't of its stated length
-    pub const LENGTH: Refusal = Refusal { number: 3 };
+    pub const SLICE_LENGTH: Refusal = Refusal { number: 3 };
     // an element of H or x is above the limit
-    pub const KEY: Refusal = Refusal { number: 4 };
+    pub const KEY_ELEMENT: Refusal = Refusal { number: 4 };
     // a byte of u or t is above 1
     pub const BIT: Refusal = Refusal { number: 5 };
     // a coordinate of an element of K is above the limit
@@ -26,13 +26,13 @@ impl Refusal {
     // some top coefficient isn't zero
     pub const TOP: Refusal = Refusal { number: 8 };
     // fewer bytes remain than a head or a content needs
-    pub const SHORT: Refusal = Refusal { number: 9 };
+    pub const BYTES_MISSING: Refusal = Refusal { number: 9 };
     // not the tag that comes next
     pub const TAG: Refusal = Refusal { number: 10 };
     // not the length stated for the field
-    pub const FIELD: Refusal = Refusal { number: 11 };
+    pub const FIELD_LENGTH: Refusal = Refusal { number: 11 };
     // bytes follow the last field
-    pub const END: Refusal = Refusal { number: 12 };
+    pub const BYTES_FOLLOW: Refusal = Refusal { number: 12 };
 }
 
 // What an entry that writes its results answers.

@@ -63,7 +63,7 @@ fn refused(
     }
     let slices = lengths(key, h, x, t, q, delta, masks, alpha, a);
     if slices != 0 {
-        return Answer::Refused(Refusal::LENGTH);
+        return Answer::Refused(Refusal::SLICE_LENGTH);
     }
     let elements = field::excess(h, FIRST) | field::excess(x, FIRST);
     let coordinates = field::excess(q, FIRST)

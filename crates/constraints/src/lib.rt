@@ -38,11 +38,11 @@ fn constraints_lengths(
     requires { ⌜ Sized (levelAt FIRST) key ⌝ }
     ensures { λ r. ⌜ eqb r 0 ≡ long (constraintsLent (lengths (levelAt FIRST) key) (now (h .entry)) (now (x .entry)) (now (positions .entry)) (now (u .entry)) (now (v .entry)) (now (t .entry)) (now (p .entry))) ⌝ }
 {
-    let n = key.lengths(FIRST);
-    let outputs = (t.len() ^ n.bits) | (p.len() ^ n.polynomials);
-    let material = (positions.len() ^ n.positions)
-        | ((u.len() ^ n.bits) | ((v.len() ^ n.elements) | outputs));
-    (h.len() ^ n.matrix) | ((x.len() ^ n.vector) | material)
+    let len = key.lengths(FIRST);
+    let outputs = (t.len() ^ len.bits) | (p.len() ^ len.polynomials);
+    let material = (positions.len() ^ len.positions)
+        | ((u.len() ^ len.bits) | ((v.len() ^ len.elements) | outputs));
+    (h.len() ^ len.matrix) | ((x.len() ^ len.vector) | material)
 }
 
 // The first refusal of constraints that applies, or Done.
@@ -89,10 +89,10 @@ fn values_lengths(
     requires { ⌜ Sized (levelAt FIRST) key ⌝ }
     ensures { λ r. ⌜ eqb r 0 ≡ long (valuesLent (lengths (levelAt FIRST) key) (now (h .entry)) (now (x .entry)) (now (t .entry)) (now (q .entry)) (now (delta .entry)) (now (p .entry))) ⌝ }
 {
-    let n = key.lengths(FIRST);
-    let material = (t.len() ^ n.bits)
-        | ((q.len() ^ n.elements) | ((delta.len() ^ n.one) | (p.len() ^ n.values)));
-    (h.len() ^ n.matrix) | ((x.len() ^ n.vector) | material)
+    let len = key.lengths(FIRST);
+    let material = (t.len() ^ len.bits)
+        | ((q.len() ^ len.elements) | ((delta.len() ^ len.one) | (p.len() ^ len.values)));
+    (h.len() ^ len.matrix) | ((x.len() ^ len.vector) | material)
 }
 
 // The first refusal of values that applies, or Done.

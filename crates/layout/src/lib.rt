@@ -174,17 +174,17 @@ fn key_row(k: usize, key: Key) -> Row
     requires { ⌜ (k < 3) × Sized (levelAt FIRST) key ⌝ }
     ensures { λ r. ⌜ (r ≡ getD (keyRows (levelAt FIRST) key) k noRow) × (r .len < 65536) ⌝ }
 {
-    let n = key.lengths(FIRST);
+    let len = key.lengths(FIRST);
     match k {
         0 => Row::SIZES,
         1 => Row {
             tag: 0x02,
-            len: 2 * n.matrix,
+            len: 2 * len.matrix,
             kind: Kind::Elements,
         },
         _ => Row {
             tag: 0x03,
-            len: 2 * n.vector,
+            len: 2 * len.vector,
             kind: Kind::Elements,
         },
     }
@@ -195,7 +195,7 @@ fn group_row(k: usize, key: Key) -> Row
     requires { ⌜ (k < 3) × Sized (levelAt FIRST) key ⌝ }
     ensures { λ r. ⌜ (r ≡ getD (groupRows (levelAt FIRST) key) k noRow) × (r .len < 65536) ⌝ }
 {
-    let n = key.lengths(FIRST);
+    let len = key.lengths(FIRST);
     let d = key.degree();
     match k {
         0 => Row {
@@ -205,12 +205,12 @@ fn group_row(k: usize, key: Key) -> Row
         },
         1 => Row {
             tag: 0x06,
-            len: n.bits,
+            len: len.bits,
             kind: Kind::Bits,
         },
         _ => Row {
             tag: 0x07,
-            len: 2 * (n.one * d),
+            len: 2 * (len.one * d),
             kind: Kind::Coordinates,
         },
     }
@@ -221,27 +221,27 @@ fn check_row(k: usize, key: Key) -> Row
     requires { ⌜ (k < 4) × Sized (levelAt FIRST) key ⌝ }
     ensures { λ r. ⌜ (r ≡ getD (checkRows (levelAt FIRST) key) k noRow) × (r .len < 65536) ⌝ }
 {
-    let n = key.lengths(FIRST);
+    let len = key.lengths(FIRST);
     let d = key.degree();
     match k {
         0 => Row {
             tag: 0x11,
-            len: 2 * n.elements,
+            len: 2 * len.elements,
             kind: Kind::Coordinates,
         },
         1 => Row {
             tag: 0x12,
-            len: 2 * (n.one * (d - 1)),
+            len: 2 * (len.one * (d - 1)),
             kind: Kind::Coordinates,
         },
         2 => Row {
             tag: 0x13,
-            len: 2 * n.one,
+            len: 2 * len.one,
             kind: Kind::Coordinates,
         },
         _ => Row {
             tag: 0x14,
-            len: 2 * n.values,
+            len: 2 * len.values,
             kind: Kind::Coordinates,
         },
     }

@@ -42,12 +42,13 @@ fn lengths(
     requires { ⌜ Sized (levelAt FIRST) key ⌝ }
     ensures { λ o. ⌜ eqb o 0 ≡ long (proveLent (lengths (levelAt FIRST) key) (now (h .entry)) (now (x .entry)) (now (positions .entry)) (now (u .entry)) (now (v .entry)) (now (r .entry)) (now (s .entry)) (now (alpha .entry)) (now (t .entry)) (now (a .entry))) ⌝ }
 {
-    let n = key.lengths(FIRST);
-    let outputs = (t.len() ^ n.bits) | (a.len() ^ n.proof);
-    let masks = (r.len() ^ n.masks) | ((s.len() ^ n.masks) | ((alpha.len() ^ n.values) | outputs));
-    let material = (positions.len() ^ n.positions)
-        | ((u.len() ^ n.bits) | ((v.len() ^ n.elements) | masks));
-    (h.len() ^ n.matrix) | ((x.len() ^ n.vector) | material)
+    let len = key.lengths(FIRST);
+    let outputs = (t.len() ^ len.bits) | (a.len() ^ len.proof);
+    let masks = (r.len() ^ len.masks)
+        | ((s.len() ^ len.masks) | ((alpha.len() ^ len.values) | outputs));
+    let material = (positions.len() ^ len.positions)
+        | ((u.len() ^ len.bits) | ((v.len() ^ len.elements) | masks));
+    (h.len() ^ len.matrix) | ((x.len() ^ len.vector) | material)
 }
 
 // The first of refusals 1 to 7 that applies, or Done.

@@ -37,10 +37,11 @@ fn lengths(
     requires { ⌜ Sized (levelAt FIRST) key ⌝ }
     ensures { λ o. ⌜ eqb o 0 ≡ long (verifyLent (lengths (levelAt FIRST) key) (now (h .entry)) (now (x .entry)) (now (t .entry)) (now (q .entry)) (now (delta .entry)) (now (masks .entry)) (now (alpha .entry)) (now (a .entry))) ⌝ }
 {
-    let n = key.lengths(FIRST);
-    let sums = (masks.len() ^ n.masks) | ((alpha.len() ^ n.values) | (a.len() ^ n.proof));
-    let material = (t.len() ^ n.bits) | ((q.len() ^ n.elements) | ((delta.len() ^ n.one) | sums));
-    (h.len() ^ n.matrix) | ((x.len() ^ n.vector) | material)
+    let len = key.lengths(FIRST);
+    let sums = (masks.len() ^ len.masks) | ((alpha.len() ^ len.values) | (a.len() ^ len.proof));
+    let material = (t.len() ^ len.bits)
+        | ((q.len() ^ len.elements) | ((delta.len() ^ len.one) | sums));
+    (h.len() ^ len.matrix) | ((x.len() ^ len.vector) | material)
 }
 
 // The first refusal that applies, or Done.

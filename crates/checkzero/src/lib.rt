@@ -34,13 +34,13 @@ pub fn nonzero(p: &[u16], size: usize, level: usize) -> u16
     any
 }
 
-// Adds the mask of n pairs r and s to the first n + 1 elements of dst.
-fn add_masks(dst: &mut [u16], r: &[u16], s: &[u16], n: usize, level: usize)
-    requires { ⌜ Words (levelAt level) (now dst) × Words (levelAt level) (now r) × Words (levelAt level) (now s) × Fits (levelAt level) (n + 1) (length (now dst)) × Fits (levelAt level) n (length (now r)) × Fits (levelAt level) n (length (now s)) ⌝ }
-    ensures { λ _. ⌜ Step (levelAt level) (now (dst .entry)) (now (dst .exit)) (λ f g. Added (K (levelAt level)) f g (mask (K (levelAt level)) n (el (levelAt level) (now (r .entry))) (el (levelAt level) (now (s .entry)))) (n + 1)) ⌝ }
+// Adds the mask of count pairs r and s to the first count + 1 elements of dst.
+fn add_masks(dst: &mut [u16], r: &[u16], s: &[u16], count: usize, level: usize)
+    requires { ⌜ Words (levelAt level) (now dst) × Words (levelAt level) (now r) × Words (levelAt level) (now s) × Fits (levelAt level) (count + 1) (length (now dst)) × Fits (levelAt level) count (length (now r)) × Fits (levelAt level) count (length (now s)) ⌝ }
+    ensures { λ _. ⌜ Step (levelAt level) (now (dst .entry)) (now (dst .exit)) (λ f g. Added (K (levelAt level)) f g (mask (K (levelAt level)) count (el (levelAt level) (now (r .entry))) (el (levelAt level) (now (s .entry)))) (count + 1)) ⌝ }
 {
     let mut k: usize = 0;
-    while k < n {
+    while k < count {
         elements::add_at(dst, k, elements::get(r, k, level), level);
         elements::add_at(dst, k + 1, elements::get(s, k, level), level);
         k += 1;
@@ -74,14 +74,14 @@ pub fn proof(
     add_masks(a, r, s, d - 1, level);
 }
 
-// The polynomial of n coefficients a at the challenge.
-pub fn evaluate(a: &[u16], delta: Element, n: usize, level: usize) -> Element
-    requires { ⌜ Words (levelAt level) (now a) × Held (levelAt level) (delta .words) × Fits (levelAt level) n (length (now a)) ⌝ }
-    ensures { λ r. ⌜ Holds (levelAt level) (r .words) (evaluated (levelAt level) n (now (a .entry)) (valueOf (levelAt level) (delta .words))) ⌝ }
+// The polynomial of count coefficients a at the challenge.
+pub fn evaluate(a: &[u16], delta: Element, count: usize, level: usize) -> Element
+    requires { ⌜ Words (levelAt level) (now a) × Held (levelAt level) (delta .words) × Fits (levelAt level) count (length (now a)) ⌝ }
+    ensures { λ r. ⌜ Holds (levelAt level) (r .words) (evaluated (levelAt level) count (now (a .entry)) (valueOf (levelAt level) (delta .words))) ⌝ }
 {
     let multiples = Multiples::of(delta, level);
     let mut total = Element::zero(level);
-    let mut k = n;
+    let mut k = count;
     while 0 < k {
         k -= 1;
         let lowest = elements::get(a, k, level);
@@ -90,10 +90,10 @@ pub fn evaluate(a: &[u16], delta: Element, n: usize, level: usize) -> Element
     total
 }
 
-// The sum of the first n mask numbers, each times its power of the challenge.
-pub fn mask_sum(masks: &[u16], delta: Element, n: usize, level: usize) -> Element
-    requires { ⌜ Words (levelAt level) (now masks) × Held (levelAt level) (delta .words) × Fits (levelAt level) n (length (now masks)) ⌝ }
-    ensures { λ r. ⌜ Holds (levelAt level) (r .words) (maskSum (K (levelAt level)) n (valueOf (levelAt level) (delta .words)) (el (levelAt level) (now (masks .entry)))) ⌝ }
+// The sum of the first count mask numbers, each times its power of the challenge.
+pub fn mask_sum(masks: &[u16], delta: Element, count: usize, level: usize) -> Element
+    requires { ⌜ Words (levelAt level) (now masks) × Held (levelAt level) (delta .words) × Fits (levelAt level) count (length (now masks)) ⌝ }
+    ensures { λ r. ⌜ Holds (levelAt level) (r .words) (maskSum (K (levelAt level)) count (valueOf (levelAt level) (delta .words)) (el (levelAt level) (now (masks .entry)))) ⌝ }
 {
-    evaluate(masks, delta, n, level)
+    evaluate(masks, delta, count, level)
 }

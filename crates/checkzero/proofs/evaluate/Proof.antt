@@ -12,11 +12,11 @@ use Rattle.checkzero.proofs.evaluate.Statement.{statement}
 use Rattle.checkzero.proofs.evaluate.Tie as tie
 
 abbrev Inv-loop : tie.InvT-loop
-Inv-loop a n level multiples total₀ k₀ total k =
-    (k ≤ n) × ((y : K (levelAt level) .Carrier) → Multiplies (levelAt level) multiples y → Holds (levelAt level) (total .words) (above (K (levelAt level)) (el (levelAt level) a) y n k))
+Inv-loop a count level multiples total₀ k₀ total k =
+    (k ≤ count) × ((y : K (levelAt level) .Carrier) → Multiplies (levelAt level) multiples y → Holds (levelAt level) (total .words) (above (K (levelAt level)) (el (levelAt level) a) y count k))
 
 abbrev μ-loop : tie.MeasureT-loop
-μ-loop a n level multiples total₀ k₀ total k = k
+μ-loop a count level multiples total₀ k₀ total k = k
 
 abbrev L : tie.Start Inv-loop μ-loop → Level
 L s = levelAt (s .args .level)
@@ -33,7 +33,7 @@ zero-requires c κs = search needs
 loop-holds : tie.Need-loop-holds Inv-loop μ-loop
 loop-holds c =
     let s = c .before .before .before in
-    (omega arith, λ y t. subst (Holds (L s) (c .zero .result .words)) (sym (above-none (K (L s)) (coefficients s) y (s .args .n))) (c .zero .ensures))
+    (omega arith, λ y t. subst (Holds (L s) (c .zero .result .words)) (sym (above-none (K (L s)) (coefficients s) y (s .args .count))) (c .zero .ensures))
 
 sub-k : tie.Need-sub-k Inv-loop μ-loop
 sub-k c = search needs
@@ -41,7 +41,7 @@ sub-k c = search needs
 get-requires : tie.Need-get-requires Inv-loop μ-loop
 get-requires c κs =
     let s = c .before .before .before .before .before in
-    (s .pre .0, fits-le (L s) (c .before .loop .k - 1 + 1) (s .args .n) (omega (arith, c .loop-test .taken, c .before .loop .inv .0)) refl (s .pre .2))
+    (s .pre .0, fits-le (L s) (c .before .loop .k - 1 + 1) (s .args .count) (omega (arith, c .loop-test .taken, c .before .loop .inv .0)) refl (s .pre .2))
 
 times-requires : tie.Need-times-requires Inv-loop μ-loop
 times-requires c κs = search needs
@@ -60,8 +60,8 @@ loop-again c =
     let e : l .k ≡ suc (l .k - 1) = omega (arith, c .before .before .before .loop-test .taken) in (
       omega (arith, l .inv .0),
       λ y t.
-          subst (Holds (L s) (c .plus .result .words)) (above-more k (coefficients s) y (s .args .n) (l .k) (l .k - 1) e (l .inv .0))
-          (c .plus .ensures (coefficients s (l .k - 1)) (k .mul y (above k (coefficients s) y (s .args .n) (l .k))) (c .before .before .get .ensures) (c .before .times .ensures y (above k (coefficients s) y (s .args .n) (l .k)) t (l .inv .1 y t))),
+          subst (Holds (L s) (c .plus .result .words)) (above-more k (coefficients s) y (s .args .count) (l .k) (l .k - 1) e (l .inv .0))
+          (c .plus .ensures (coefficients s (l .k - 1)) (k .mul y (above k (coefficients s) y (s .args .count) (l .k))) (c .before .before .get .ensures) (c .before .times .ensures y (above k (coefficients s) y (s .args .count) (l .k)) t (l .inv .1 y t))),
     )
 
 returns : tie.Need-returns Inv-loop μ-loop
@@ -71,7 +71,7 @@ returns c =
     let k = K (L s) in
     let y = valueOf (L s) (s .args .delta .words) in
     let done : l .k ≡ 0 = omega arith in
-    subst (Holds (L s) (l .total .words)) (ap (above k (coefficients s) y (s .args .n)) done ∙ above-all k (coefficients s) y (s .args .n)) (l .inv .1 y (c .before .before .before .of .ensures y (s .pre .1)))
+    subst (Holds (L s) (l .total .words)) (ap (above k (coefficients s) y (s .args .count)) done ∙ above-all k (coefficients s) y (s .args .count)) (l .inv .1 y (c .before .before .before .of .ensures y (s .pre .1)))
 
 pub evaluate-spec : {M : Type 1} → statement M
 evaluate-spec =

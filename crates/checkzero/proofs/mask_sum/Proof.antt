@@ -13,7 +13,7 @@ returns : tie.Need-returns
 returns c =
     let s = c .before .before in
     let l = levelAt (s .args .level) in
-    subst (Holds l (c .evaluate .result .words)) (mask-evaluated (K l) (s .args .n) (valueOf l (s .args .delta .words)) (el l (s .args .masks .now))) (c .evaluate .ensures)
+    subst (Holds l (c .evaluate .result .words)) (mask-evaluated (K l) (s .args .count) (valueOf l (s .args .delta .words)) (el l (s .args .masks .now))) (c .evaluate .ensures)
 
 pub mask-sum-spec : {M : Type 1} → statement M
 mask-sum-spec = tie.close (tie.spec evaluate-requires returns)

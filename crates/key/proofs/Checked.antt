@@ -1,8 +1,10 @@
 -- The rows of an entry that takes a key: sizes, and then refusals 3 to 7.
 use mathlib.Core.Path.{_≡_, sym, ap, _∙_}
-use mathlib.Core.Bool.{Bool, true, false, not}
+use mathlib.Core.Bool.{Bool, true, not}
 use mathlib.Core.List.{_++_}
-use borrow.Author.Tests.{not-false}
+use Prim.Native.Nat.{ℕ}
+use borrow.Author.Tests.{not-false, eq-eqb, ne-eqb}
+use lib.Dec.{eqb}
 use Rattle.refusal.specs.Answer.{refusal, firstOf}
 use Rattle.refusal.specs.declared.Answer.{Answer}
 use Rattle.refusal.specs.declared.Answer.the-variants.{Done}
@@ -41,13 +43,12 @@ module _ (l : Level) (key : Key) where
     checked-done c = after-done (sizes l key) (checks slices elements bits coordinates positions) (sizes-done l key (c .is-sized))
         ∙ (λ t. firstOf (checks (c .slices-fine t) (c .elements-fine t) (c .bits-fine t) (c .coordinates-fine t) (c .positions-fine t)))
 
-    -- past the sizes, a wrong length refuses
-    pub told-length : firstOf (sizes l key) ≡ Done → slices ≡ false → refusal 3 ≡ firstOf (sizes l key ++ checks slices elements bits coordinates positions)
-    told-length h s = sym (after-done (sizes l key) (checks slices elements bits coordinates positions) h ∙ stop 3 (contents elements bits coordinates positions) (ap not s))
+    -- past the sizes, the lengths and then the contents decide; each is told by the test of a number, which is k for the lengths
+    pub told-length : firstOf (sizes l key) ≡ Done → (k : ℕ) → eqb k 0 ≡ slices → (k ≡ 0 → ⊥) → refusal 3 ≡ firstOf (sizes l key ++ checks slices elements bits coordinates positions)
+    told-length h k e f = sym (after-done (sizes l key) (checks slices elements bits coordinates positions) h ∙ stop 3 (contents elements bits coordinates positions) (ap not (sym e ∙ ne-eqb k 0 f)))
 
-    -- past the lengths, the contents decide; each is told by the test of a number
-    pub told : firstOf (sizes l key) ≡ Done → slices ≡ true → {b c d e : Bool} {r : Answer} → r ≡ firstOf (contents b c d e) → b ≡ elements → c ≡ bits → d ≡ coordinates → e ≡ positions
+    pub told : firstOf (sizes l key) ≡ Done → (k : ℕ) → eqb k 0 ≡ slices → k ≡ 0 → {b c d e : Bool} {r : Answer} → r ≡ firstOf (contents b c d e) → b ≡ elements → c ≡ bits → d ≡ coordinates → e ≡ positions
         → r ≡ firstOf (sizes l key ++ checks slices elements bits coordinates positions)
-    told h s r p q t u =
+    told h k f z r p q t u =
         r ∙ (λ i. firstOf (contents (p i) (q i) (t i) (u i)))
-        ∙ sym (after-done (sizes l key) (checks slices elements bits coordinates positions) h ∙ pass 3 (contents elements bits coordinates positions) (ap not s))
+        ∙ sym (after-done (sizes l key) (checks slices elements bits coordinates positions) h ∙ pass 3 (contents elements bits coordinates positions) (ap not (sym f ∙ eq-eqb k 0 z)))

@@ -12,7 +12,6 @@ use Rattle.key.proofs.Checked.{told, told-length}
 use Rattle.constraints.specs.Entry.{constraintsLent}
 use mathlib.Core.Path.{_≡_, sym, ap, _∙_}
 use native.Mathlib.Omega.{arith}
-use borrow.Author.Tests.{eq-eqb, ne-eqb}
 use borrow.Author.Needs.{needs}
 use Rattle.constraints.proofs.constraints_refused.Statement.{statement}
 use Rattle.constraints.proofs.constraints_refused.Tie as tie
@@ -47,7 +46,7 @@ returns-2 : tie.Need-returns-2
 returns-2 c =
     let a = c .before .before .before .before .before .before .before .before .before .before .before .before .args in
     told-length (levelAt FIRST) (a .key) (long (constraintsLent (lengths (levelAt FIRST) (a .key)) (a .h .now) (a .x .now) (a .positions .now) (a .u .now) (a .v .now) (a .t .now) (a .p .now))) (withins (levelAt FIRST) (a .h .now ∷ a .x .now ∷ [])) (below 1 (a .u .now)) (withins (levelAt FIRST) (a .v .now ∷ [])) (below (degree (a .key .n)) (a .positions .now))
-    (passed (c .before .before)) (sym (c .before .constraints-lengths .ensures) ∙ ne-eqb (c .before .constraints-lengths .result) 0 (c .if1 .taken))
+    (passed (c .before .before)) (c .before .constraints-lengths .result) (c .before .constraints-lengths .ensures) (c .if1 .taken)
 
 excess-requires : tie.Need-excess-requires
 excess-requires c κs = search needs
@@ -78,7 +77,7 @@ returns-3 c =
     let a = c .before .before .before .before .before .before .before .before .before .before .before .before .before .before .before .before .before .before .before .args in
     let e = c .before .before .before .before .before .before in
     told (levelAt FIRST) (a .key) (long (constraintsLent (lengths (levelAt FIRST) (a .key)) (a .h .now) (a .x .now) (a .positions .now) (a .u .now) (a .v .now) (a .t .now) (a .p .now))) (withins (levelAt FIRST) (a .h .now ∷ a .x .now ∷ [])) (below 1 (a .u .now)) (withins (levelAt FIRST) (a .v .now ∷ [])) (below (degree (a .key .n)) (a .positions .now))
-    (passed (e .before .before .before)) (sym (e .before .before .constraints-lengths .ensures) ∙ eq-eqb (e .before .before .constraints-lengths .result) 0 (e .before .if1 .left)) (c .contents .ensures)
+    (passed (e .before .before .before)) (e .before .before .constraints-lengths .result) (e .before .before .constraints-lengths .ensures) (e .before .if1 .left) (c .contents .ensures)
     (withins-more (levelAt FIRST) (a .h .now) (a .x .now ∷ []) (e .excess .result) (c .before .before .before .before .before .excess2 .result) (e .excess .ensures) (withins-last (levelAt FIRST) (a .x .now) (c .before .before .before .before .before .excess2 .result) (c .before .before .before .before .before .excess2 .ensures)))
     (c .before .before .over2 .ensures)
     (withins-last (levelAt FIRST) (a .v .now) (c .before .excess3 .result) (c .before .excess3 .ensures))

@@ -13,7 +13,6 @@ use Rattle.key.proofs.Checked.{told, told-length}
 use Rattle.prover.specs.Entry.{proveLent}
 use mathlib.Core.Path.{_≡_, sym, ap, _∙_}
 use native.Mathlib.Omega.{arith}
-use borrow.Author.Tests.{eq-eqb, ne-eqb}
 use borrow.Author.Needs.{needs}
 use Rattle.prover.proofs.refused.Statement.{statement}
 use Rattle.prover.proofs.refused.Tie as tie
@@ -46,7 +45,7 @@ returns-2 : tie.Need-returns-2
 returns-2 c =
     let a = c .before .before .before .before .before .before .before .before .before .before .before .before .before .before .before .args in
     told-length (levelAt FIRST) (a .key) (long (proveLent (lengths (levelAt FIRST) (a .key)) (a .h .now) (a .x .now) (a .positions .now) (a .u .now) (a .v .now) (a .r .now) (a .s .now) (a .alpha .now) (a .t .now) (a .a .now))) (withins (levelAt FIRST) (a .h .now ∷ a .x .now ∷ [])) (below 1 (a .u .now)) (withins (levelAt FIRST) (a .v .now ∷ a .r .now ∷ a .s .now ∷ a .alpha .now ∷ [])) (below (degree (a .key .n)) (a .positions .now))
-    (passed (c .before .before)) (sym (c .before .lengths .ensures) ∙ ne-eqb (c .before .lengths .result) 0 (c .if1 .taken))
+    (passed (c .before .before)) (c .before .lengths .result) (c .before .lengths .ensures) (c .if1 .taken)
 
 excess-requires : tie.Need-excess-requires
 excess-requires c κs = search needs
@@ -85,7 +84,7 @@ returns-3 : tie.Need-returns-3
 returns-3 c =
     let a = c .before .before .before .before .before .before .before .before .before .before .before .before .before .before .before .before .before .before .before .before .before .before .before .before .before .args in
     told (levelAt FIRST) (a .key) (long (proveLent (lengths (levelAt FIRST) (a .key)) (a .h .now) (a .x .now) (a .positions .now) (a .u .now) (a .v .now) (a .r .now) (a .s .now) (a .alpha .now) (a .t .now) (a .a .now))) (withins (levelAt FIRST) (a .h .now ∷ a .x .now ∷ [])) (below 1 (a .u .now)) (withins (levelAt FIRST) (a .v .now ∷ a .r .now ∷ a .s .now ∷ a .alpha .now ∷ [])) (below (degree (a .key .n)) (a .positions .now))
-    (passed (c .before .before .before .before .before .before .before .before .before .before .before .before)) (sym (c .before .before .before .before .before .before .before .before .before .before .before .lengths .ensures) ∙ eq-eqb (c .before .before .before .before .before .before .before .before .before .before .before .lengths .result) 0 (c .before .before .before .before .before .before .before .before .before .before .if1 .left)) (c .contents .ensures)
+    (passed (c .before .before .before .before .before .before .before .before .before .before .before .before)) (c .before .before .before .before .before .before .before .before .before .before .before .lengths .result) (c .before .before .before .before .before .before .before .before .before .before .before .lengths .ensures) (c .before .before .before .before .before .before .before .before .before .before .if1 .left) (c .contents .ensures)
     (withins-more (levelAt FIRST) (a .h .now) (a .x .now ∷ []) (c .before .before .before .before .before .before .before .before .before .excess .result) (c .before .before .before .before .before .before .before .before .excess2 .result) (c .before .before .before .before .before .before .before .before .before .excess .ensures) (withins-last (levelAt FIRST) (a .x .now) (c .before .before .before .before .before .before .before .before .excess2 .result) (c .before .before .before .before .before .before .before .before .excess2 .ensures)))
     (c .before .over2 .ensures)
     (withins-more (levelAt FIRST) (a .v .now) (a .r .now ∷ a .s .now ∷ a .alpha .now ∷ []) (c .before .before .before .before .before .before .before .excess3 .result) (bitOr (c .before .before .before .before .before .before .excess4 .result) (bitOr (c .before .before .before .before .before .excess5 .result) (c .before .before .before .before .excess6 .result))) (c .before .before .before .before .before .before .before .excess3 .ensures) (withins-more (levelAt FIRST) (a .r .now) (a .s .now ∷ a .alpha .now ∷ []) (c .before .before .before .before .before .before .excess4 .result) (bitOr (c .before .before .before .before .before .excess5 .result) (c .before .before .before .before .excess6 .result)) (c .before .before .before .before .before .before .excess4 .ensures) (withins-more (levelAt FIRST) (a .s .now) (a .alpha .now ∷ []) (c .before .before .before .before .before .excess5 .result) (c .before .before .before .before .excess6 .result) (c .before .before .before .before .before .excess5 .ensures) (withins-last (levelAt FIRST) (a .alpha .now) (c .before .before .before .before .excess6 .result) (c .before .before .before .before .excess6 .ensures)))))

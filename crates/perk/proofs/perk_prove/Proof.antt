@@ -3,7 +3,7 @@ use mathlib.Core.Logic.{_↔_}
 use mathlib.Core.List.{List, _++_}
 use Prim.Native.Nat.{ℕ}
 use native.Mathlib.Omega.{arith}
-use Rattle.refusal.specs.Answer.{numberOf}
+use Rattle.refusal.specs.Answer.{numberOf, refusal}
 use Rattle.refusal.specs.declared.Answer.{Answer}
 use Rattle.refusal.specs.declared.Answer.the-variants.{Done}
 use Rattle.refusal.proofs.Answers.{when-numbered}
@@ -33,11 +33,15 @@ unfolding proveOutcome
 done l key h x positions u v r s α t a e n =
     told-done n (proveRows l key h x positions u v r s α t a ++ topsRow l key h x positions v) (omega arith, omega arith, (omega arith, omega arith, (omega arith, omega arith, (omega arith, omega arith, (omega arith, omega arith, (omega arith, omega arith, (omega arith, omega arith, (omega arith, omega arith, (omega arith, omega arith, (omega arith, omega arith, tt)))))))))) (ap (λ (o : Answer × (List ℕ × List ℕ)). o .0) e)
 
+solved : (l : Level) (key : Key) (h x positions u v r s α t a : List ℕ) {o : Answer} {left : List ℕ × List ℕ} {k : ℕ} → (o, left) ≡ proveOutcome l key h x positions u v r s α t a → k ≡ numberOf o
+    → Solved l key h x positions u v r s α t a (o ≡ Done) (o ≡ refusal 8) → Solved l key h x positions u v r s α t a (k ≡ 0) (k ≡ 8)
+solved l key h x positions u v r s α t a e n known =
+    record { done = both (done l key h x positions u v r s α t a e n) (known .done); eight = both (told-refusal n 8 (omega arith)) (known .eight) }
+
 returns : tie.Need-returns
 returns c =
     let e = c .before .before .before .before .before .prove .ensures in
-    let n = c .number .ensures in
-    (when-numbered (e .0) n, record { done = both (done _ _ _ _ _ _ _ _ _ _ _ _ (e .0) n) (e .1 .done); eight = both (told-refusal n 8 (omega arith)) (e .1 .eight) })
+    (when-numbered (e .0) (c .number .ensures), solved _ _ _ _ _ _ _ _ _ _ _ _ (e .0) (c .number .ensures) (e .1))
 
 pub perk-prove-spec : {M : Type 1} → statement M
 perk-prove-spec =

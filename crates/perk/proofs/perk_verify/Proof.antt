@@ -30,12 +30,16 @@ told l key h x t q Δ masks α a e n =
     let holds = accepts l (system l key h x) t q Δ masks α a in
     (told-accepted n rows f holds e, told-rejected n rows f holds e)
 
+judges : (l : Level) (key : Key) (h x t q Δ masks α a : List ℕ) {v : Verdict} {k : ℕ} → v ≡ verifyOutcome l key h x t q Δ masks α a → k ≡ verdictNumber v
+    → Judges l key h x t q Δ masks α a (v ≡ Accepted) (v ≡ Rejected) → (k ≡ verdictNumber (verifyOutcome l key h x t q Δ masks α a)) × Judges l key h x t q Δ masks α a (k ≡ 0) (k ≡ 255)
+judges l key h x t q Δ masks α a e n known =
+    let by = told l key h x t q Δ masks α a e n in
+    (n ∙ ap verdictNumber e, record { accepted = both (by .0) (known .accepted); rejected = both (by .1) (known .rejected) })
+
 returns : tie.Need-returns
 returns c =
     let e = c .before .verify .ensures in
-    let n = c .verdict-number .ensures in
-    let by = told _ _ _ _ _ _ _ _ _ _ (e .0) n in
-    (n ∙ ap verdictNumber (e .0), record { accepted = both (by .0) (e .1 .accepted); rejected = both (by .1) (e .1 .rejected) })
+    judges _ _ _ _ _ _ _ _ _ _ (e .0) (c .verdict-number .ensures) (e .1)
 
 pub perk-verify-spec : {M : Type 1} → statement M
 perk-verify-spec = tie.close (tie.spec verify-requires verdict-number-requires returns)

@@ -38,13 +38,17 @@ static void fill(uint16_t *words, size_t count) {
     for (size_t i = 0; i < count; i++) words[i] = (uint16_t)below(2048);
 }
 
-/* x has one value and each row of H the sum zero: every order solves the key */
+/*
+ * x has one value and each row of H the sum zero: every order solves the key. Row e has no entry but zero before column e, and one that
+ * is not zero there, so no row is a sum of multiples of the others; e is below n - 1.
+ */
 static void make_key(size_t n, size_t m) {
-    fill(h, m * n);
     for (size_t e = 0; e < m; e++) {
-        uint16_t sum = 0;
-        for (size_t i = 0; i + 1 < n; i++) sum ^= h[e * n + i];
-        h[e * n + n - 1] = sum;
+        uint16_t *row = h + e * n, sum;
+        row[e] = sum = (uint16_t)(1 + below(2047));
+        fill(row + e + 1, n - e - 2);
+        for (size_t i = e + 1; i + 1 < n; i++) sum ^= row[i];
+        row[n - 1] = sum;
     }
     uint16_t value = (uint16_t)(1 + below(2047));
     for (size_t i = 0; i < n; i++) x[i] = value;

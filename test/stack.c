@@ -80,7 +80,9 @@ int main(int argc, char **argv) {
     if (input == NULL) return 2;
     file_len = fread(file, 1, sizeof file, input);
     fclose(input);
-    /* H is zero, so that every order solves the key; the other numbers are any within the limit, and a and the masks are zero */
+    /* H has unit rows and x is zero, so that every order solves the key; the other numbers are any within the limit, and a and the masks
+       are zero */
+    for (int e = 0; e < M; e++) h[e * N + e] = 1;
     for (int i = 0; i < N; i++) positions[i] = (uint8_t)i;
     for (int i = 0; i < W * N * D; i++) v[i] = q[i] = (uint16_t)(i * 37 % 2048);
     for (int i = 0; i < W * (N + M); i++) alpha[i] = (uint16_t)(i % 2048);

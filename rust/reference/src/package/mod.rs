@@ -259,6 +259,13 @@ pub fn field(bytes: &[u8], tag: u8) -> &[u8] {
     &bytes[field_range(bytes, tag)]
 }
 
+/// The package that a check file begins with; empty when the file is refused.
+/// It is no entry of the library.
+pub fn package_of(bytes: &[u8]) -> &[u8] {
+    let end = |judged: Judged| judged.range(tag::Q).start - HEAD;
+    &bytes[..Judged::check_file(bytes).map_or(0, end)]
+}
+
 /// The content of a field of a check file, empty when the file is refused or
 /// has no such tag. It is no entry of the library; `check` reads by it.
 pub fn check_file_field(bytes: &[u8], tag: u8) -> &[u8] {

@@ -1,8 +1,8 @@
 //! The readers, the field of a package, and perkcheck's line.
 
 use reference::package::{
-    check_file_field, head_start, index_of, join, package_part, tag, CHECK_FILE_TAGS, HEAD,
-    PACKAGE_TAGS,
+    check_file_field, head_start, index_of, join, package_of, package_part, tag, CHECK_FILE_TAGS,
+    HEAD, PACKAGE_TAGS,
 };
 use reference::samples::{Generator, Sample};
 use reference::vectors::Cases;
@@ -274,6 +274,8 @@ fn fields_of_check_files() {
         }
         let package = join(package_part(&fields));
         assert_eq!(check_file_field(&package, tag::H), []);
+        assert_eq!(package_of(&file), package);
+        assert_eq!(package_of(&package), []);
     }
 }
 

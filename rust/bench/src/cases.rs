@@ -121,6 +121,7 @@ fn on_elements(rows: &mut Vec<Row>) {
                 sizes: None,
                 form,
                 products,
+                process: false,
             },
             calls,
         });
@@ -157,6 +158,7 @@ pub fn rows(inputs: &Inputs) -> Vec<Row<'_>> {
                     sizes: Some((n, m)),
                     form: "",
                     products: Some(products[entry](n, d)),
+                    process: false,
                 },
                 calls: calls.collect(),
             });
@@ -176,6 +178,7 @@ pub fn rows(inputs: &Inputs) -> Vec<Row<'_>> {
                 sizes: None,
                 form,
                 products: None,
+                process: false,
             },
             calls: calls.collect(),
         });

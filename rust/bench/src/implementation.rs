@@ -99,41 +99,29 @@ macro_rules! filed {
     }};
 }
 
+/// The implementation of a module, with its name, its entries on bytes, and
+/// whether its instructions are counted.
+macro_rules! implementation {
+    ($module:path, $name:literal, $filed:expr, $counted:literal) => {{
+        use $module as module;
+        Implementation {
+            name: $name,
+            sum: module::sum,
+            product: module::product,
+            keyed: keyed!($module),
+            filed: $filed,
+            counted: $counted,
+        }
+    }};
+}
+
 /// The implementations, in the order of the columns.
 pub const ALL: &[Implementation] = &[
-    Implementation {
-        name: "library",
-        sum: library::sum,
-        product: library::product,
-        keyed: keyed!(library),
-        filed: filed!(library),
-        counted: true,
-    },
-    Implementation {
-        name: "Rust",
-        sum: packed::sum,
-        product: packed::product,
-        keyed: keyed!(packed),
-        filed: None,
-        counted: true,
-    },
-    Implementation {
-        name: "reference",
-        sum: of_reference::sum,
-        product: of_reference::product,
-        keyed: keyed!(of_reference),
-        filed: filed!(of_reference),
-        counted: false,
-    },
+    implementation!(library, "library", filed!(library), true),
+    implementation!(packed, "Rust", None, true),
+    implementation!(of_reference, "reference", filed!(of_reference), false),
     #[cfg(feature = "other")]
-    Implementation {
-        name: "other",
-        sum: library::other::sum,
-        product: library::other::product,
-        keyed: keyed!(library::other),
-        filed: filed!(library::other),
-        counted: true,
-    },
+    implementation!(library::other, "other", filed!(library::other), true),
 ];
 
 /// The place of the library in the order.

@@ -27,18 +27,6 @@ impl Entry {
     }
 }
 
-/// Sizes that are refused.
-const SIZES: [(u32, Fault); 8] = [
-    (2, |case| case.m = 0),
-    (2, |case| case.m = case.n),
-    (2, |case| case.m = case.n + 1),
-    (2, |case| case.m = usize::MAX),
-    (1, |case| case.n = 0),
-    (1, |case| case.n = 1),
-    (1, |case| case.n = 65),
-    (1, |case| case.n = usize::MAX),
-];
-
 /// The last element is missing, there is one more, or there is none.
 macro_rules! lengths {
     ($($slice:ident)*) => {
@@ -63,13 +51,31 @@ macro_rules! elements {
     };
 }
 
+/// Sizes that are refused.
+const SIZES: [(u32, Fault); 8] = [
+    (2, |case| case.m = 0),
+    (2, |case| case.m = case.n),
+    (2, |case| case.m = case.n + 1),
+    (2, |case| case.m = usize::MAX),
+    (1, |case| case.n = 0),
+    (1, |case| case.n = 1),
+    (1, |case| case.n = 65),
+    (1, |case| case.n = usize::MAX),
+];
+
+/// The faults of a key.
+fn of_key() -> Vec<(u32, Fault)> {
+    [
+        &SIZES[..],
+        &lengths![h x],
+        &elements![4, 2048, h x],
+        &elements![4, 65535, h x],
+    ]
+    .concat()
+}
+
 /// The four functions of a key.
 fn entries() -> [Entry; 4] {
-    let key = || {
-        let mut faults = elements![4, 2048, h x].to_vec();
-        faults.extend(elements![4, 65535, h x]);
-        faults
-    };
     [
         Entry {
             name: "constraints",
@@ -80,9 +86,8 @@ fn entries() -> [Entry; 4] {
                 &elements![7, 255, positions],
                 &elements![6, 2048, v],
                 &elements![5, 2, u],
-                &key(),
-                &lengths![h x positions u v t_out polynomials],
-                &SIZES,
+                &of_key(),
+                &lengths![positions u v t_out polynomials],
             ]
             .concat(),
         },
@@ -93,9 +98,8 @@ fn entries() -> [Entry; 4] {
             faults: [
                 &elements![6, 2048, q delta][..],
                 &elements![5, 2, t],
-                &key(),
-                &lengths![h x t q delta values],
-                &SIZES,
+                &of_key(),
+                &lengths![t q delta values],
             ]
             .concat(),
         },
@@ -113,9 +117,8 @@ fn entries() -> [Entry; 4] {
                 &elements![7, 255, positions],
                 &elements![6, 2048, v r s alpha],
                 &elements![5, 2, u],
-                &key(),
-                &lengths![h x positions u v r s alpha t_out a_out],
-                &SIZES,
+                &of_key(),
+                &lengths![positions u v r s alpha t_out a_out],
             ]
             .concat(),
         },
@@ -126,9 +129,8 @@ fn entries() -> [Entry; 4] {
             faults: [
                 &elements![6, 2048, q delta masks alpha a][..],
                 &elements![5, 2, t],
-                &key(),
-                &lengths![h x t q delta masks alpha a],
-                &SIZES,
+                &of_key(),
+                &lengths![t q delta masks alpha a],
             ]
             .concat(),
         },

@@ -77,7 +77,7 @@ pub struct Sample {
     /// The honest mask numbers.
     pub masks: Vec<u16>,
     /// The serial.
-    pub serial: u16,
+    pub serial: u32,
 }
 
 impl Sample {
@@ -95,7 +95,7 @@ impl Sample {
         let s = generator.words(sizes.mask_words());
         let alpha = generator.words(sizes.weight_words());
         let delta = generator.words(sizes.delta_words());
-        let serial = generator.below(65_536) as u16;
+        let serial = generator.below(65_536) as u32;
         let mut sample = Sample {
             n,
             m,

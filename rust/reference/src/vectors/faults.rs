@@ -1,7 +1,7 @@
 //! The cases of perkcheck with one fault or two, at every field.
 
 use super::cases::Cases;
-use super::fields::{has_words, number_of_excess, set_word, Fields};
+use super::fields::{has_words, number_of_excess, set, Fields};
 use crate::package::{stated_of, tag, WrittenField, HEAD};
 use std::collections::BTreeSet;
 
@@ -97,30 +97,24 @@ impl Cases {
     fn value_faults(&mut self, fields: &Fields) {
         let (words, others): (Vec<u8>, Vec<u8>) =
             fields.tags().into_iter().partition(|&tag| has_words(tag));
-        let others = others.into_iter().filter(|&tag| tag != tag::SIZES);
         for tag in words.into_iter().chain(others) {
             let f = stated_of(tag).name;
             let length = fields.field(tag).content.len();
             let Some(number) = number_of_excess(tag).filter(|_| length > 0) else {
                 continue;
             };
-            let (values, count) = match has_words(tag) {
-                true => ([2048, 4096, 32_768, 65_535], length / 2),
-                false => ([2, 3, 128, 255], length),
+            let (values, count) = if has_words(tag) {
+                ([2048, 4096, 32_768, 65_535], length / 2)
+            } else {
+                ([2, 3, 128, 255], length)
             };
-            let set = |place: usize, value: u16| {
-                let other = fields.with(tag, |field| match has_words(tag) {
-                    true => set_word(field, place, value),
-                    false => field.content[place] = value as u8,
-                });
-                other.bytes()
-            };
+            let with = |place, value| fields.with(tag, |field| set(field, place, value)).bytes();
             for value in values {
-                self.refused(format!("{f}_{value}"), set(0, value), number);
+                self.refused(format!("{f}_{value}"), with(0, value), number);
             }
             let least = values[0];
             for (word, place) in [("mid", count / 2), ("end", count - 1)] {
-                self.refused(format!("{f}_{least}_{word}"), set(place, least), number);
+                self.refused(format!("{f}_{least}_{word}"), with(place, least), number);
             }
         }
     }

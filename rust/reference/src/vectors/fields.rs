@@ -19,15 +19,23 @@ pub fn has_words(tag: u8) -> bool {
     matches!(stated_of(tag).kind, Kind::Key | Kind::Elements)
 }
 
-/// The number of the refusal of a content that is too large in the field with
-/// this tag, if it can be.
+/// The number of the refusal of an element or a bit that is too large in the
+/// field with this tag, if it has some.
 pub fn number_of_excess(tag: u8) -> Option<u32> {
     match stated_of(tag).kind {
-        Kind::Sizes => Some(1),
+        Kind::Sizes | Kind::Serial => None,
         Kind::Key => Some(4),
-        Kind::Serial => None,
         Kind::Bits => Some(5),
         Kind::Elements => Some(6),
+    }
+}
+
+/// Sets an element or a bit of a field.
+pub fn set(field: &mut WrittenField, place: usize, value: u16) {
+    if has_words(field.tag) {
+        set_word(field, place, value);
+    } else {
+        field.content[place] = value as u8;
     }
 }
 
@@ -101,11 +109,8 @@ impl Fields {
         if tag == tag::SIZES {
             return Some((2, self.with(tag, |field| field.content[1] = 0)));
         }
-        let number = number_of_excess(tag)?;
-        let faulty = self.with(tag, |field| match has_words(tag) {
-            true => set_word(field, 0, 2048),
-            false => field.content[0] = 2,
-        });
-        Some((number, faulty))
+        let least = if has_words(tag) { 2048 } else { 2 };
+        let faulty = self.with(tag, |field| set(field, 0, least));
+        Some((number_of_excess(tag)?, faulty))
     }
 }

@@ -189,11 +189,7 @@ fn every_written_file_is_read_back() {
     for sample in samples() {
         let (t, a) = sample.proof().expect("the sample is solved");
         let Sample { n, m, serial, .. } = sample;
-        let contents = Contents {
-            n,
-            m,
-            serial: u32::from(serial),
-        };
+        let contents = Contents { n, m, serial };
         let package = write_package(sample.key(), serial, &t, &a);
         assert_eq!(read_package(&package), Ok(contents));
         let file = write_check_file(

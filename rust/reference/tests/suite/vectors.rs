@@ -134,7 +134,7 @@ impl Text {
             delta: Text::words(&self.lines("delta")[0]),
             q: Text::words(&self.rows("q")),
             masks: Text::words(&self.rows("mask")),
-            serial: self.number("serial") as u16,
+            serial: self.number("serial") as u32,
         }
     }
 

@@ -20,6 +20,9 @@
 
 enum { N = 64, D = 6, W = 12 };
 
+/* the key, as both functions take it */
+#define KEY n, m, h, m * n, x, n
+
 static uint16_t h[(N - 1) * N], x[N], v[W * N * D], r[W * D], s[W * D], alpha[W * 2 * N];
 static uint16_t a[W * D], polynomials[W * 2 * N * (D + 1)];
 static uint8_t positions[N], u[N * D], t[N * D];
@@ -109,11 +112,9 @@ int main(int argc, char **argv) {
 
     uint32_t result = 255;
     if (strcmp(entry, "constraints") == 0)
-        result = perk_constraints(n, m, h, m * n, x, n, positions, n, u, bits, v, W * bits, t, bits, polynomials,
-                                  W * (n + m) * (d + 1));
+        result = perk_constraints(KEY, positions, n, u, bits, v, W * bits, t, bits, polynomials, W * (n + m) * (d + 1));
     if (strcmp(entry, "prove") == 0)
-        result = perk_prove(n, m, h, m * n, x, n, positions, n, u, bits, v, W * bits, r, masks, s, masks, alpha, weights, t,
-                            bits, a, W * d);
+        result = perk_prove(KEY, positions, n, u, bits, v, W * bits, r, masks, s, masks, alpha, weights, t, bits, a, W * d);
     VALGRIND_MAKE_MEM_DEFINED(&result, sizeof result);
     if (result != 0 && !(untouched(t, sizeof t) && untouched(a, sizeof a) && untouched(polynomials, sizeof polynomials))) result = 254;
     printf("%u\n", (unsigned)result);

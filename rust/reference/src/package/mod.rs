@@ -65,8 +65,17 @@ enum Piece {
         length: usize,
         content: Range<usize>,
     },
-    /// One or two bytes at the end, too few for tag and length.
-    Rest,
+    /// One or two bytes at the end, too few for tag and length. The first stands
+    /// where a tag does.
+    Rest { tag: u8 },
+}
+
+impl Piece {
+    /// Whether it starts with this tag.
+    fn starts_with(&self, wanted: u8) -> bool {
+        let (Piece::Field { tag, .. } | Piece::Rest { tag }) = self;
+        *tag == wanted
+    }
 }
 
 /// A number of two bytes: "highest byte first".
@@ -80,11 +89,11 @@ fn split(bytes: &[u8]) -> Vec<Piece> {
     let mut pieces = Vec::new();
     let mut start = 0;
     while start < bytes.len() {
+        let tag = bytes[start];
         if bytes.len() - start < HEAD {
-            pieces.push(Piece::Rest);
+            pieces.push(Piece::Rest { tag });
             break;
         }
-        let tag = bytes[start];
         let length = usize::from(number(bytes[start + 1], bytes[start + 2]));
         let content_start = start + HEAD;
         let content_end = bytes.len().min(content_start + length);
@@ -107,7 +116,7 @@ fn judge_head_and_length(
 ) -> Result<Range<usize>, (Place, Refusal)> {
     match piece {
         // P1: "fewer than 3 bytes remain for tag and length".
-        None | Some(Piece::Rest) => Err((Place::Head, Refusal::BytesMissing)),
+        None | Some(Piece::Rest { .. }) => Err((Place::Head, Refusal::BytesMissing)),
         Some(Piece::Field {
             tag,
             length,
@@ -176,11 +185,15 @@ impl<'a> Judged<'a> {
                 tag,
             }
         };
-        let mut pieces = split(bytes).into_iter();
+        let mut pieces = split(bytes).into_iter().peekable();
         // No length depends on the sizes before 01 tells them.
         let mut sizes = Sizes { n: 0, m: 0, d: 0 };
         let mut found = Vec::new();
         for field in fields {
+            let there = |piece: &Piece| piece.starts_with(field.tag);
+            if field.optional && !pieces.peek().is_some_and(there) {
+                continue;
+            }
             let at = at(Some(field.tag));
             let content = judge_head_and_length(pieces.next(), field, sizes).map_err(at)?;
             sizes = judge_values(field.kind, &bytes[content.clone()], sizes)
@@ -270,4 +283,46 @@ pub fn package_of(bytes: &[u8]) -> &[u8] {
 /// has no such tag. It is no entry of the library; `check` reads by it.
 pub fn check_file_field(bytes: &[u8], tag: u8) -> &[u8] {
     &bytes[Judged::check_file(bytes).map_or(0..0, |judged| judged.range(tag))]
+}
+
+#[cfg(test)]
+mod tests {
+    use super::stated::stated;
+    use super::*;
+
+    /// Three fields of one byte, the second of which may be absent.
+    fn answer(bytes: &[u8]) -> Result<Vec<u8>, (Refusal, Option<u8>)> {
+        let field = |tag| stated(tag, "", Kind::Serial, |_| vec![1]);
+        let mut fields = [1, 2, 3].map(field);
+        fields[1].optional = true;
+        match Judged::of(bytes, &fields) {
+            Ok(judged) => Ok(judged.found.into_iter().map(|(tag, _)| tag).collect()),
+            Err(refused) => Err((refused.refusal, refused.tag)),
+        }
+    }
+
+    #[test]
+    fn a_field_that_may_be_absent() {
+        let fields = [1, 2, 3].map(|tag| vec![tag, 0, 1, 9]);
+        let of = |tags: &[usize]| {
+            answer(
+                &tags
+                    .iter()
+                    .map(|&i| &fields[i - 1][..])
+                    .collect::<Vec<_>>()
+                    .concat(),
+            )
+        };
+        assert_eq!(of(&[1, 2, 3]), Ok(vec![1, 2, 3]));
+        assert_eq!(of(&[1, 3]), Ok(vec![1, 3]));
+        assert_eq!(of(&[1, 2, 2, 3]), Err((Refusal::Tag, Some(3))));
+        assert_eq!(of(&[1, 3, 2]), Err((Refusal::BytesFollow, None)));
+        assert_eq!(of(&[1]), Err((Refusal::BytesMissing, Some(3))));
+        assert_eq!(of(&[1, 2]), Err((Refusal::BytesMissing, Some(3))));
+        // A byte where its tag stands, and a fault in it.
+        let with = |rest: &[u8]| answer(&[&fields[0][..], rest].concat());
+        assert_eq!(with(&[2]), Err((Refusal::BytesMissing, Some(2))));
+        assert_eq!(with(&[3]), Err((Refusal::BytesMissing, Some(3))));
+        assert_eq!(with(&[2, 0, 2]), Err((Refusal::FieldLength, Some(2))));
+    }
 }

@@ -52,10 +52,12 @@ pub struct Stated {
     /// The lengths in bytes that it may have. That of 01 is the same for all
     /// sizes.
     pub lengths: fn(Sizes) -> Vec<usize>,
+    /// Whether it may be absent.
+    pub optional: bool,
 }
 
-/// A row of the table below.
-const fn stated(
+/// A row of the table below: a field that may not be absent.
+pub const fn stated(
     tag: u8,
     name: &'static str,
     kind: Kind,
@@ -66,6 +68,7 @@ const fn stated(
         name,
         kind,
         lengths,
+        optional: false,
     }
 }
 
@@ -91,6 +94,15 @@ pub const FIELDS: &[Stated] = &[
     }),
 ];
 
+/// The number of fields of a package: those before q.
+const PACKAGE_FIELDS: usize = {
+    let mut count = 0;
+    while FIELDS[count].tag != tag::Q {
+        count += 1;
+    }
+    count
+};
+
 /// The first tags of the table.
 const fn tags<const COUNT: usize>() -> [u8; COUNT] {
     let mut tags = [0; COUNT];
@@ -103,10 +115,10 @@ const fn tags<const COUNT: usize>() -> [u8; COUNT] {
 }
 
 /// The tags of a package.
-pub const PACKAGE_TAGS: [u8; 6] = tags();
+pub const PACKAGE_TAGS: [u8; PACKAGE_FIELDS] = tags();
 
 /// The tags of a check file.
-pub const CHECK_FILE_TAGS: [u8; 10] = tags();
+pub const CHECK_FILE_TAGS: [u8; FIELDS.len()] = tags();
 
 /// What is stated of the field with this tag, which a check file has.
 pub fn stated_of(tag: u8) -> &'static Stated {

@@ -2,7 +2,7 @@
 
 use super::generator;
 use crate::large_field::COORDINATES;
-use crate::package::{head_start, join, tag, HEAD};
+use crate::package::{head_start, join, tag, WrittenField, HEAD};
 use crate::perkcheck::perkcheck_line;
 use crate::samples::{Generator, Sample};
 
@@ -47,14 +47,6 @@ fn file_lines(name: &str, bytes: &[u8]) -> String {
         .collect()
 }
 
-/// The sample with other positions.
-fn with_positions(sample: &Sample, positions: Vec<u8>) -> Sample {
-    Sample {
-        positions,
-        ..sample.clone()
-    }
-}
-
 /// The lines of t, polynomials and values, their names after a prefix.
 fn modelled_lines(sample: &Sample, prefix: &str) -> String {
     let d = sample.d;
@@ -74,20 +66,19 @@ fn unsolved(sample: &Sample, generator: &mut Generator) -> Sample {
     let codes = 1usize << sample.d;
     loop {
         let positions = (0..sample.n).map(|_| generator.below(codes) as u8);
-        let other = with_positions(sample, positions.collect());
+        let other = Sample {
+            positions: positions.collect(),
+            ..sample.clone()
+        };
         if other.proof().is_err() {
             return other;
         }
     }
 }
 
-/// The text file of a sample.
-pub fn text(sample: &Sample) -> String {
+/// The lines of what the entries read.
+fn input_lines(sample: &Sample) -> String {
     let Sample { n, m, d, .. } = *sample;
-    let fields = sample.fields().expect("the sample is solved");
-    let file = join(&fields);
-    let (_, a) = sample.proof().expect("the sample is solved");
-
     let mut text = format!("n {n}\nm {m}\nd {d}\nserial {}\n", sample.serial);
     text += &row_lines("h", &sample.h, n, small_elements);
     text += &format!("x{}\n", small_elements(&sample.x));
@@ -99,36 +90,45 @@ pub fn text(sample: &Sample) -> String {
     text += &row_lines("alpha", &sample.alpha, COORDINATES, large_elements);
     text += &format!("delta{}\n", large_elements(&sample.delta));
     text += &row_lines("q", &sample.q, COORDINATES * d, large_elements);
-    text += &row_lines("mask", &sample.masks, COORDINATES, large_elements);
-    text += &modelled_lines(sample, "");
-    text += &row_lines("a", &a, COORDINATES, large_elements);
-    text += &file_lines("file", &file);
-    text += &format!("line {}", perkcheck_line(&file));
+    text + &row_lines("mask", &sample.masks, COORDINATES, large_elements)
+}
 
+/// The lines of the check file, and of changes of one byte in it.
+fn check_file_lines(fields: &[WrittenField]) -> String {
+    let file = join(fields);
     let changed = |place: usize| {
         let mut changed = file.clone();
         changed[place] ^= 1;
         changed
     };
-    let tampered = changed(head_start(&fields, tag::A) + HEAD + 1);
+    let mut text = file_lines("file", &file);
+    text += &format!("line {}", perkcheck_line(&file));
+    let tampered = changed(head_start(fields, tag::A) + HEAD + 1);
     text += &file_lines("tampered_file", &tampered);
     text += &format!("tampered_line {}", perkcheck_line(&tampered));
 
     let but_sizes = fields.iter().filter(|field| field.tag != tag::SIZES);
     for field in but_sizes.filter(|field| !field.content.is_empty()) {
-        let place = head_start(&fields, field.tag) + HEAD + field.content.len() - 1;
+        let place = head_start(fields, field.tag) + HEAD + field.content.len() - 1;
         let changed = changed(place);
         let line = perkcheck_line(&changed);
-        text += &format!(
-            "change {place} {:02x} {:02x} {line}",
-            file[place], changed[place]
-        );
+        let (old, new) = (file[place], changed[place]);
+        text += &format!("change {place} {old:02x} {new:02x} {line}");
     }
+    text
+}
 
-    let wrong = unsolved(sample, &mut generator(m, n));
+/// The text file of a sample.
+pub fn text(sample: &Sample) -> String {
+    let (_, a) = sample.proof().expect("the sample is solved");
+    let fields = sample.fields().expect("the sample is solved");
+    let mut text = input_lines(sample) + &modelled_lines(sample, "");
+    text += &row_lines("a", &a, COORDINATES, large_elements);
+    text += &check_file_lines(&fields);
+
+    let wrong = unsolved(sample, &mut generator(sample.m, sample.n));
     text += &format!("wrong_positions{}\n", decimal(&wrong.positions));
     text += &modelled_lines(&wrong, "wrong_");
     let refusal = wrong.proof().expect_err("the positions solve nothing");
-    text += &format!("wrong_prove {}\n", refusal.number());
-    text
+    text + &format!("wrong_prove {}\n", refusal.number())
 }

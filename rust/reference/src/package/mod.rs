@@ -303,16 +303,11 @@ mod tests {
 
     #[test]
     fn a_field_that_may_be_absent() {
-        let fields = [1, 2, 3].map(|tag| vec![tag, 0, 1, 9]);
-        let of = |tags: &[usize]| {
-            answer(
-                &tags
-                    .iter()
-                    .map(|&i| &fields[i - 1][..])
-                    .collect::<Vec<_>>()
-                    .concat(),
-            )
+        let bytes = |tags: &[u8]| -> Vec<u8> {
+            let fields = tags.iter().flat_map(|&tag| [tag, 0, 1, 9]);
+            fields.collect()
         };
+        let of = |tags: &[u8]| answer(&bytes(tags));
         assert_eq!(of(&[1, 2, 3]), Ok(vec![1, 2, 3]));
         assert_eq!(of(&[1, 3]), Ok(vec![1, 3]));
         assert_eq!(of(&[1, 2, 2, 3]), Err((Refusal::Tag, Some(3))));
@@ -320,7 +315,7 @@ mod tests {
         assert_eq!(of(&[1]), Err((Refusal::BytesMissing, Some(3))));
         assert_eq!(of(&[1, 2]), Err((Refusal::BytesMissing, Some(3))));
         // A byte where its tag stands, and a fault in it.
-        let with = |rest: &[u8]| answer(&[&fields[0][..], rest].concat());
+        let with = |rest: &[u8]| answer(&[&bytes(&[1])[..], rest].concat());
         assert_eq!(with(&[2]), Err((Refusal::BytesMissing, Some(2))));
         assert_eq!(with(&[3]), Err((Refusal::BytesMissing, Some(3))));
         assert_eq!(with(&[2, 0, 2]), Err((Refusal::FieldLength, Some(2))));

@@ -93,9 +93,9 @@ pub fn entries(rows: &[Measured]) {
         "called one after another, for at least {} µs each and on the same inputs, in the opposite order in every second turn. A ratio of two",
         LEAST.as_micros()
     );
-    println!("implementations is the median of the turns' ratios, so it need not be the ratio of the two times shown; it varies less from run to run than");
-    println!("they do. Output buffers are not cleared between calls. `products` is the number of products in K that the library's algorithm needs, and");
-    println!("`library/products` the library's time in units of that many independent calls of `product`.");
+    println!("implementations is the median of the turns' ratios, so it need not be the ratio of the two times shown. Output buffers are not cleared");
+    println!("between calls. `products` is the number of products in K that the library's algorithm needs, and `library/products` the library's time in");
+    println!("units of that many independent calls of `product`.");
     println!("`instructions` are those of one call, counted by callgrind; they repeat from run to run.\n");
 
     let other = ALL.len() > OTHER;

@@ -248,7 +248,7 @@ fn faults(entry: &Entry, call: &Call) -> Vec<Fault> {
 }
 
 /// Sizes without and with masks, and with spare codes.
-const SIZES: [(usize, usize); 3] = [(2, 1), (4, 3), (5, 2)];
+const SIZES: [(usize, usize); 4] = [(2, 1), (3, 1), (4, 3), (5, 2)];
 
 #[test]
 fn calls_without_a_fault_are_answered() {

@@ -2,6 +2,10 @@
 #include <stdio.h>
 #include "perk.h"
 
+/* a slice of length 0, and a key of such slices */
+#define NONE NULL, 0
+#define KEY n, 1, NONE, NONE
+
 static int failed;
 
 static void expect(const char *call, uint32_t result, uint32_t stated) {
@@ -11,22 +15,22 @@ static void expect(const char *call, uint32_t result, uint32_t stated) {
 }
 
 int main(void) {
-    expect("sum", perk_sum(NULL, 0, NULL, 0, NULL, 0), 3);
-    expect("product", perk_product(NULL, 0, NULL, 0, NULL, 0), 3);
+    expect("sum", perk_sum(NONE, NONE, NONE), 3);
+    expect("product", perk_product(NONE, NONE, NONE), 3);
     for (size_t n = 0; n < 4; n++) {
         uint32_t stated = n < 2 ? 1 : 3;
-        expect("constraints", perk_constraints(n, 1, NULL, 0, NULL, 0, NULL, 0, NULL, 0, NULL, 0, NULL, 0, NULL, 0), stated);
-        expect("values", perk_values(n, 1, NULL, 0, NULL, 0, NULL, 0, NULL, 0, NULL, 0, NULL, 0), stated);
-        expect("prove", perk_prove(n, 1, NULL, 0, NULL, 0, NULL, 0, NULL, 0, NULL, 0, NULL, 0, NULL, 0, NULL, 0, NULL, 0, NULL, 0), stated);
-        expect("verify", perk_verify(n, 1, NULL, 0, NULL, 0, NULL, 0, NULL, 0, NULL, 0, NULL, 0, NULL, 0, NULL, 0), stated);
+        expect("constraints", perk_constraints(KEY, NONE, NONE, NONE, NONE, NONE), stated);
+        expect("values", perk_values(KEY, NONE, NONE, NONE, NONE), stated);
+        expect("prove", perk_prove(KEY, NONE, NONE, NONE, NONE, NONE, NONE, NONE, NONE), stated);
+        expect("verify", perk_verify(KEY, NONE, NONE, NONE, NONE, NONE, NONE), stated);
     }
     uint32_t kept[3] = {7, 8, 9};
     size_t start = 5;
-    expect("read package", perk_read_package(NULL, 0, &kept[0], &kept[1], &kept[2]), 9);
-    expect("read check file", perk_read_check_file(NULL, 0, &kept[0], &kept[1], &kept[2]), 9);
+    expect("read package", perk_read_package(NONE, &kept[0], &kept[1], &kept[2]), 9);
+    expect("read check file", perk_read_check_file(NONE, &kept[0], &kept[1], &kept[2]), 9);
     expect("n, m and serial kept", kept[0] == 7 && kept[1] == 8 && kept[2] == 9, 1);
-    expect("field", (uint32_t)perk_field(NULL, 0, 2, &start), 0);
+    expect("field", (uint32_t)perk_field(NONE, 2, &start), 0);
     expect("its start", (uint32_t)start, 0);
-    expect("check", perk_check(NULL, 0), 9);
+    expect("check", perk_check(NONE), 9);
     return failed;
 }

@@ -20,6 +20,9 @@
 
 enum { N = 64, D = 6, W = 12 };
 
+/* the key, as both functions take it */
+#define KEY n, m, h, m * n, x, n
+
 static uint16_t h[(N - 1) * N], x[N], v[W * N * D], r[W * D], s[W * D], alpha[W * 2 * N];
 static uint16_t a[W * D], polynomials[W * 2 * N * (D + 1)];
 static uint8_t positions[N], u[N * D], t[N * D];
@@ -38,13 +41,17 @@ static void fill(uint16_t *words, size_t count) {
     for (size_t i = 0; i < count; i++) words[i] = (uint16_t)below(2048);
 }
 
-/* x has one value and each row of H the sum zero: every order solves the key */
+/*
+ * x has one value and each row of H the sum zero: every order solves the key. Row e has no entry but zero before column e, and one that
+ * is not zero there, so no row is a sum of multiples of the others; e is below n - 1.
+ */
 static void make_key(size_t n, size_t m) {
-    fill(h, m * n);
     for (size_t e = 0; e < m; e++) {
-        uint16_t sum = 0;
-        for (size_t i = 0; i + 1 < n; i++) sum ^= h[e * n + i];
-        h[e * n + n - 1] = sum;
+        uint16_t *row = h + e * n, sum;
+        row[e] = sum = (uint16_t)(1 + below(2047));
+        fill(row + e + 1, n - e - 2);
+        for (size_t i = e + 1; i + 1 < n; i++) sum ^= row[i];
+        row[n - 1] = sum;
     }
     uint16_t value = (uint16_t)(1 + below(2047));
     for (size_t i = 0; i < n; i++) x[i] = value;
@@ -105,11 +112,9 @@ int main(int argc, char **argv) {
 
     uint32_t result = 255;
     if (strcmp(entry, "constraints") == 0)
-        result = perk_constraints(n, m, h, m * n, x, n, positions, n, u, bits, v, W * bits, t, bits, polynomials,
-                                  W * (n + m) * (d + 1));
+        result = perk_constraints(KEY, positions, n, u, bits, v, W * bits, t, bits, polynomials, W * (n + m) * (d + 1));
     if (strcmp(entry, "prove") == 0)
-        result = perk_prove(n, m, h, m * n, x, n, positions, n, u, bits, v, W * bits, r, masks, s, masks, alpha, weights, t,
-                            bits, a, W * d);
+        result = perk_prove(KEY, positions, n, u, bits, v, W * bits, r, masks, s, masks, alpha, weights, t, bits, a, W * d);
     VALGRIND_MAKE_MEM_DEFINED(&result, sizeof result);
     if (result != 0 && !(untouched(t, sizeof t) && untouched(a, sizeof a) && untouched(polynomials, sizeof polynomials))) result = 254;
     printf("%u\n", (unsigned)result);

@@ -17,20 +17,22 @@ static uint16_t delta[W], masks[W * (D - 1)], polynomials[W * (N + M) * (D + 1)]
 static uint8_t positions[N], u[N * D], t[N * D], file[32768];
 static size_t file_len;
 
+/* the key, as every function with a key takes it */
+#define KEY N, M, h, M * N, x, N
+
 static uint32_t nothing(void) { return 0; }
 static uint32_t product(void) { return perk_product(delta, W, delta, W, out, W); }
 static uint32_t constraints(void) {
-    return perk_constraints(N, M, h, M * N, x, N, positions, N, u, N * D, v, W * N * D, t, N * D, polynomials, W * (N + M) * (D + 1));
+    return perk_constraints(KEY, positions, N, u, N * D, v, W * N * D, t, N * D, polynomials, W * (N + M) * (D + 1));
 }
 static uint32_t value(void) {
-    return perk_values(N, M, h, M * N, x, N, t, N * D, q, W * N * D, delta, W, values, W * (N + M));
+    return perk_values(KEY, t, N * D, q, W * N * D, delta, W, values, W * (N + M));
 }
 static uint32_t prove(void) {
-    return perk_prove(N, M, h, M * N, x, N, positions, N, u, N * D, v, W * N * D, r, W * (D - 1), s, W * (D - 1), alpha, W * (N + M), t,
-                      N * D, a, W * D);
+    return perk_prove(KEY, positions, N, u, N * D, v, W * N * D, r, W * (D - 1), s, W * (D - 1), alpha, W * (N + M), t, N * D, a, W * D);
 }
 static uint32_t verify(void) {
-    return perk_verify(N, M, h, M * N, x, N, t, N * D, q, W * N * D, delta, W, masks, W * (D - 1), alpha, W * (N + M), a, W * D);
+    return perk_verify(KEY, t, N * D, q, W * N * D, delta, W, masks, W * (D - 1), alpha, W * (N + M), a, W * D);
 }
 static uint32_t read_check_file(void) {
     uint32_t n, m, serial;
@@ -80,7 +82,9 @@ int main(int argc, char **argv) {
     if (input == NULL) return 2;
     file_len = fread(file, 1, sizeof file, input);
     fclose(input);
-    /* H is zero, so that every order solves the key; the other numbers are any within the limit, and a and the masks are zero */
+    /* H has unit rows and x is zero, so that every order solves the key; the other numbers are any within the limit, and a and the masks
+       are zero */
+    for (int e = 0; e < M; e++) h[e * N + e] = 1;
     for (int i = 0; i < N; i++) positions[i] = (uint8_t)i;
     for (int i = 0; i < W * N * D; i++) v[i] = q[i] = (uint16_t)(i * 37 % 2048);
     for (int i = 0; i < W * (N + M); i++) alpha[i] = (uint16_t)(i % 2048);

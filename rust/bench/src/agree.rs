@@ -1,8 +1,8 @@
 //! Whether all implementations answer and write the same, on random inputs and
 //! on some that are refused.
 
-use crate::implementation::{Found, Material, ALL, FILED, KEYED};
-use reference::samples::{Generator, Sample};
+use crate::implementation::{material, written_words, Found, ALL, FILED, KEYED};
+use reference::samples::{Generator, Material, Sample};
 
 /// Whether all are the same.
 fn same<T: PartialEq>(mut outcomes: impl Iterator<Item = T>) -> bool {
@@ -39,37 +39,15 @@ fn elements(generator: &mut Generator) -> Result<(), String> {
 
 /// Changes a word or a byte, or the length of a slice, at random.
 fn damage(material: &mut Material, generator: &mut Generator) {
-    let sample = &mut material.sample;
-    let bits = [&mut sample.positions, &mut sample.u, &mut material.t];
-    let words = [
-        &mut sample.h,
-        &mut sample.x,
-        &mut sample.v,
-        &mut sample.r,
-        &mut sample.s,
-        &mut sample.alpha,
-        &mut sample.q,
-        &mut sample.delta,
-        &mut sample.masks,
-        &mut material.a,
-    ];
-    let slice = generator.below(13);
-    if slice < 3 {
-        let slice = &mut *bits.into_iter().nth(slice).expect("one of three");
-        let place = generator.below(slice.len());
-        match generator.below(3) {
-            0 => slice[place] ^= 1,
-            1 => slice[place] = generator.number() as u8,
-            _ => slice.truncate(place),
-        }
-    } else {
-        let slice = &mut *words.into_iter().nth(slice - 3).expect("one of ten");
-        let place = generator.below(slice.len() + 1);
-        match generator.below(3) {
-            0 if place < slice.len() => slice[place] ^= 1,
-            1 if place < slice.len() => slice[place] = generator.number() as u16,
-            _ => slice.truncate(place),
-        }
+    let mut slices = material.slices();
+    let chosen = generator.below(slices.len());
+    let (_, slice) = &mut slices[chosen];
+    let length = slice.length();
+    let place = generator.below(length + 1);
+    match generator.below(3) {
+        0 if place < length => slice.change(place, |old| old ^ 1),
+        1 if place < length => slice.change(place, |_| generator.number() as u16),
+        _ => slice.set_length(place),
     }
 }
 
@@ -104,8 +82,8 @@ fn keys(generator: &mut Generator) -> Result<(), String> {
     for n in sizes {
         for round in 0..if n > 30 { 1 } else { 12 } {
             let m = 1 + generator.below(n - 1);
-            let mut material = Material::of(Sample::solving(n, m, generator));
-            let (bits, words) = (material.t.len(), material.words());
+            let mut material = material(Sample::solving(n, m, generator));
+            let (bits, words) = (material.t.len(), written_words(&material.sample));
             if keyed(&material, bits, words, generator)? != [0; 4] {
                 return Err(format!("an honest sample is not taken at n = {n}, m = {m}"));
             }

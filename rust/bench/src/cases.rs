@@ -1,9 +1,12 @@
 //! The rows: which entries are called with what.
 
-use crate::implementation::{Found, Material, OnBytes, OnElements, OnKey, ALL, FILED, KEYED};
+use crate::implementation::{
+    material, written_words, Found, OnBytes, OnElements, OnKey, ALL, FILED, KEYED,
+};
 use crate::measure::{Calls, Row, Subject};
 use crate::products;
-use reference::samples::{Generator, Sample};
+use reference::package::package_of;
+use reference::samples::{Generator, Material, Sample};
 use std::hint::black_box;
 
 /// The sizes n and m. The first four grow with n.
@@ -31,16 +34,11 @@ impl Inputs {
         let mut generator = Generator::new(3);
         let materials = SIZES
             .iter()
-            .map(|&(n, m)| Material::of(Sample::solving(n, m, &mut generator)))
+            .map(|&(n, m)| material(Sample::solving(n, m, &mut generator)))
             .collect();
-        // A package is the first six fields, each a tag, two bytes of length and
-        // its content.
-        let length = (0..6).fold(0, |at, _| {
-            at + 3 + 256 * usize::from(file[at + 1]) + usize::from(file[at + 2])
-        });
         Inputs {
             materials,
-            package: file[..length].to_vec(),
+            package: package_of(&file).to_vec(),
             file,
         }
     }
@@ -123,6 +121,7 @@ fn on_elements(rows: &mut Vec<Row>) {
                 sizes: None,
                 form,
                 products,
+                process: false,
             },
             calls,
         });
@@ -149,7 +148,7 @@ pub fn rows(inputs: &Inputs) -> Vec<Row<'_>> {
     for (entry, name) in KEYED.into_iter().enumerate() {
         for material in &inputs.materials {
             let Sample { n, m, d, .. } = material.sample;
-            let words = material.words()[entry];
+            let words = written_words(&material.sample)[entry];
             let calls = ALL
                 .iter()
                 .map(|one| Some(with_key(one.keyed[entry], material, words)));
@@ -159,6 +158,7 @@ pub fn rows(inputs: &Inputs) -> Vec<Row<'_>> {
                     sizes: Some((n, m)),
                     form: "",
                     products: Some(products[entry](n, d)),
+                    process: false,
                 },
                 calls: calls.collect(),
             });
@@ -178,6 +178,7 @@ pub fn rows(inputs: &Inputs) -> Vec<Row<'_>> {
                 sizes: None,
                 form,
                 products: None,
+                process: false,
             },
             calls: calls.collect(),
         });

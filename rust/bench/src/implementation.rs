@@ -2,21 +2,11 @@
 
 use crate::of_reference;
 use comparison::library;
-use reference::samples::Sample;
+use reference::package::tag;
+use reference::samples::{Material, Sample};
 
 /// Sum or product of two elements of K.
 pub type OnElements = fn(&[u16], &[u16], &mut [u16]) -> u32;
-
-/// What the entries with a key read.
-#[derive(Clone)]
-pub struct Material {
-    /// The key and the material.
-    pub sample: Sample,
-    /// The masked witness, which values and verify read.
-    pub t: Vec<u8>,
-    /// The proof, which verify reads.
-    pub a: Vec<u16>,
-}
 
 /// An entry with a key, with the room for t and for what else it writes.
 pub type OnKey = fn(&Material, &mut [u8], &mut [u16]) -> u32;
@@ -37,11 +27,11 @@ pub struct Found {
 /// An entry on the bytes of a file.
 pub type OnBytes = fn(&[u8], &mut Found) -> usize;
 
-/// The tag of the field that is asked for: a, the last of a package.
-const TAG: u8 = 7;
-
 /// The names of the entries with a key.
 pub const KEYED: [&str; 4] = ["constraints", "values", "prove", "verify"];
+
+/// The place of prove among them.
+const PROVE: usize = 2;
 
 /// The names of the entries on bytes.
 pub const FILED: [&str; 4] = ["read_package", "read_check_file", "field", "check"];
@@ -103,47 +93,35 @@ macro_rules! filed {
                 module::read_check_file(bytes, &mut found.n, &mut found.m, &mut found.serial)
                     as usize
             },
-            |bytes, found| module::field(bytes, TAG, &mut found.start),
+            |bytes, found| module::field(bytes, tag::A, &mut found.start),
             |bytes, _| module::check(bytes) as usize,
         ])
     }};
 }
 
+/// The implementation of a module, with its name, its entries on bytes, and
+/// whether its instructions are counted.
+macro_rules! implementation {
+    ($module:path, $name:literal, $filed:expr, $counted:literal) => {{
+        use $module as module;
+        Implementation {
+            name: $name,
+            sum: module::sum,
+            product: module::product,
+            keyed: keyed!($module),
+            filed: $filed,
+            counted: $counted,
+        }
+    }};
+}
+
 /// The implementations, in the order of the columns.
 pub const ALL: &[Implementation] = &[
-    Implementation {
-        name: "library",
-        sum: library::sum,
-        product: library::product,
-        keyed: keyed!(library),
-        filed: filed!(library),
-        counted: true,
-    },
-    Implementation {
-        name: "Rust",
-        sum: packed::sum,
-        product: packed::product,
-        keyed: keyed!(packed),
-        filed: None,
-        counted: true,
-    },
-    Implementation {
-        name: "reference",
-        sum: of_reference::sum,
-        product: of_reference::product,
-        keyed: keyed!(of_reference),
-        filed: filed!(of_reference),
-        counted: false,
-    },
+    implementation!(library, "library", filed!(library), true),
+    implementation!(packed, "Rust", None, true),
+    implementation!(of_reference, "reference", filed!(of_reference), false),
     #[cfg(feature = "other")]
-    Implementation {
-        name: "other",
-        sum: library::other::sum,
-        product: library::other::product,
-        keyed: keyed!(library::other),
-        filed: filed!(library::other),
-        counted: true,
-    },
+    implementation!(library::other, "other", filed!(library::other), true),
 ];
 
 /// The place of the library in the order.
@@ -155,21 +133,26 @@ pub const REFERENCE: usize = 2;
 /// The place of the other build of the library, where there is one.
 pub const OTHER: usize = 3;
 
-impl Material {
-    /// Material of a sample, with t and a of its proof.
-    pub fn of(sample: Sample) -> Material {
-        let (t, a) = (vec![0; sample.n * sample.d], vec![0; 12 * sample.d]);
-        let mut material = Material { sample, t, a };
-        let (mut t, mut a) = (material.t.clone(), material.a.clone());
-        let answer = ALL[RUST].keyed[2](&material, &mut t, &mut a);
-        assert_eq!(answer, 0, "the sample is solved");
-        (material.t, material.a) = (t, a);
-        material
-    }
+/// Material of a sample, with t and a of its proof, which the reference would
+/// take long to make.
+pub fn material(sample: Sample) -> Material {
+    let sizes = sample.key().sizes().expect("sizes that are not refused");
+    let mut t = vec![0; sizes.length_of("t")];
+    let mut a = vec![0; sizes.length_of("a")];
+    let mut material = Material {
+        sample,
+        t: Vec::new(),
+        a: Vec::new(),
+    };
+    let answer = ALL[RUST].keyed[PROVE](&material, &mut t, &mut a);
+    assert_eq!(answer, 0, "the sample is solved");
+    (material.t, material.a) = (t, a);
+    material
+}
 
-    /// The words that each entry with a key writes beside t.
-    pub fn words(&self) -> [usize; 4] {
-        let Sample { n, m, d, .. } = self.sample;
-        [(d + 1) * (n + m), n + m, d, 0].map(|elements| 12 * elements)
-    }
+/// The words that each entry with a key writes beside t.
+pub fn written_words(sample: &Sample) -> [usize; 4] {
+    let sizes = sample.key().sizes().expect("sizes that are not refused");
+    let outputs = [Some("polynomials"), Some("values"), Some("a"), None];
+    outputs.map(|output| output.map_or(0, |slice| sizes.length_of(slice)))
 }

@@ -3,14 +3,13 @@
 use std::hint::black_box;
 use std::time::{Duration, Instant};
 
-/// The least time of one repetition: short, so that some repetitions are not
-/// interrupted.
-pub const REPETITION: Duration = Duration::from_micros(200);
+/// The least time of an implementation's calls in one turn.
+pub const LEAST: Duration = Duration::from_micros(200);
 
-/// The number of repetitions, of which the best counts.
-pub const REPETITIONS: usize = 2000;
+/// The number of turns.
+pub const TURNS: usize = 2000;
 
-/// After this time an implementation of a row is not repeated any more.
+/// After this time an implementation of a row takes part in no more turns.
 const LONGEST: Duration = Duration::from_millis(800);
 
 /// Calls an entry as many times as it is told.
@@ -27,6 +26,8 @@ pub struct Subject {
     pub form: &'static str,
     /// The number of products in K that one call of the library needs.
     pub products: Option<usize>,
+    /// Whether a call starts a process.
+    pub process: bool,
 }
 
 /// A row of the table: the same work by each implementation that has it.
@@ -41,10 +42,45 @@ pub struct Row<'a> {
 pub struct Measured {
     /// What it is about.
     pub subject: Subject,
-    /// The best times of one call in nanoseconds.
-    pub times: Vec<Option<f64>>,
+    /// The time of one call in nanoseconds, in each turn that an implementation
+    /// took part in, from the first on.
+    turns: Vec<Option<Vec<f64>>>,
     /// The instructions of one call.
     pub instructions: Vec<Option<u64>>,
+}
+
+impl Measured {
+    /// The time of one call of an implementation in nanoseconds: the median, but
+    /// for a process the least, since what else runs on the machine delays its
+    /// start.
+    pub fn time(&self, one: usize) -> Option<f64> {
+        let times = self.turns[one].clone()?;
+        if self.subject.process {
+            times.into_iter().min_by(f64::total_cmp)
+        } else {
+            median(times)
+        }
+    }
+
+    /// The median of the turns' ratios of the times of two implementations.
+    pub fn ratio(&self, a: usize, b: usize) -> Option<f64> {
+        let turns = self.turns[a]
+            .iter()
+            .flatten()
+            .zip(self.turns[b].iter().flatten());
+        median(turns.map(|(a, b)| a / b).collect())
+    }
+}
+
+/// The median; none of no numbers.
+fn median(mut numbers: Vec<f64>) -> Option<f64> {
+    numbers.sort_by(f64::total_cmp);
+    let middle = numbers.len() / 2;
+    let upper = *numbers.get(middle)?;
+    if numbers.len() % 2 == 1 {
+        return Some(upper);
+    }
+    Some((numbers[middle - 1] + upper) / 2.0)
 }
 
 /// The time of a number of calls.
@@ -54,69 +90,71 @@ fn time(calls: &mut Calls, count: usize) -> Duration {
     start.elapsed()
 }
 
-/// The repetitions of one implementation of a row.
-struct Repetitions<'a> {
+/// The turns of one implementation of a row.
+struct Turns<'a> {
     calls: Calls<'a>,
-    /// The number of calls in one repetition.
+    /// The number of calls in one turn.
     count: usize,
-    /// The time of all repetitions.
+    /// The time of all turns.
     total: Duration,
-    /// The time of the best repetition.
-    best: Duration,
+    /// The times of one call in nanoseconds.
+    times: Vec<f64>,
 }
 
-impl<'a> Repetitions<'a> {
+impl<'a> Turns<'a> {
     /// None yet; finds the number of calls.
-    fn new(mut calls: Calls<'a>) -> Repetitions<'a> {
+    fn new(mut calls: Calls<'a>) -> Turns<'a> {
         let mut count = 1;
-        while time(&mut calls, count) < REPETITION {
+        while time(&mut calls, count) < LEAST {
             count *= 2;
         }
-        Repetitions {
+        Turns {
             calls,
             count,
             total: Duration::ZERO,
-            best: Duration::MAX,
+            times: Vec::new(),
         }
     }
 
     /// One more, unless they took too long.
-    fn repeat(&mut self) {
+    fn take(&mut self) {
         if self.total < LONGEST {
             let time = time(&mut self.calls, self.count);
             self.total += time;
-            self.best = self.best.min(time);
+            let nanoseconds = time.as_secs_f64() * 1e9;
+            self.times.push(nanoseconds / self.count as f64);
         }
-    }
-
-    /// The best time of one call in nanoseconds.
-    fn nanoseconds(&self) -> f64 {
-        self.best.as_secs_f64() * 1e9 / self.count as f64
     }
 }
 
-/// Times the rows, in the order of their lists of instructions. All rows and
-/// implementations take turns, so that a busy machine slows all of them down
-/// alike.
+/// Times the rows, in the order of their lists of instructions. In a turn the
+/// implementations of a row are called one after another, so that a busy machine
+/// slows them down alike; every second turn calls them in the opposite order.
 pub fn measured(rows: Vec<Row>, instructions: Vec<Vec<Option<u64>>>) -> Vec<Measured> {
-    let (subjects, mut repetitions): (Vec<_>, Vec<Vec<_>>) = rows
+    let (subjects, mut rows): (Vec<_>, Vec<Vec<_>>) = rows
         .into_iter()
         .map(|row| {
             let calls = row.calls.into_iter();
-            let repetitions = calls.map(|calls| calls.map(Repetitions::new)).collect();
-            (row.subject, repetitions)
+            let turns = calls.map(|calls| calls.map(Turns::new)).collect();
+            (row.subject, turns)
         })
         .unzip();
-    for _ in 0..REPETITIONS {
-        let all = repetitions.iter_mut().flatten().flatten();
-        all.for_each(Repetitions::repeat);
+    for turn in 0..TURNS {
+        for row in &mut rows {
+            let implementations = row.iter_mut().flatten();
+            if turn % 2 == 0 {
+                implementations.for_each(Turns::take);
+            } else {
+                implementations.rev().for_each(Turns::take);
+            }
+        }
     }
-    let rows = subjects.into_iter().zip(repetitions).zip(instructions);
-    rows.map(|((subject, repetitions), instructions)| Measured {
+    let rows = subjects.into_iter().zip(rows).zip(instructions);
+    rows.map(|((subject, row), instructions)| Measured {
         subject,
-        times: repetitions
-            .iter()
-            .map(|one| one.as_ref().map(Repetitions::nanoseconds))
+        turns: row
+            .into_iter()
+            .map(|one| one.map(|turns| turns.times))
             .collect(),
         instructions,
     })

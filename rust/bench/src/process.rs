@@ -30,6 +30,7 @@ fn row(entry: &'static str, form: &'static str, program: &Path, file: &Path) -> 
             sizes: None,
             form,
             products: None,
+            process: true,
         },
         calls,
     }

@@ -102,8 +102,7 @@ fn bars(rows: &[Measured]) -> Vec<(String, Vec<Option<f64>>)> {
     });
     chosen
         .map(|row| {
-            let times = row.times.iter();
-            let times = times.map(|time| time.map(|time| time / 1e3));
+            let times = (0..ALL.len()).map(|one| row.time(one).map(|time| time / 1e3));
             (row.subject.entry.to_string(), times.collect())
         })
         .collect()
@@ -160,7 +159,7 @@ fn draw_bars(picture: &mut Picture, rows: &[Measured]) {
 fn draw_growth(picture: &mut Picture, rows: &[Measured]) {
     let points = |entry: &str, one: usize| -> Vec<(f64, f64)> {
         growing(rows, entry)
-            .filter_map(|row| Some((row.subject.sizes?.0 as f64, row.times[one]? / 1e3)))
+            .filter_map(|row| Some((row.subject.sizes?.0 as f64, row.time(one)? / 1e3)))
             .collect()
     };
     let all: Vec<(f64, f64)> = KEYED

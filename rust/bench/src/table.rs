@@ -2,10 +2,12 @@
 
 use crate::cases::{ONE_PRODUCT, SIZES};
 use crate::implementation::{ALL, KEYED, LIBRARY, OTHER, REFERENCE, RUST};
-use crate::measure::{Measured, REPETITION, REPETITIONS};
+use crate::measure::{Measured, LEAST, TURNS};
 
-/// The ratio of times up to which one build is not called slower than another.
-const NOISE: f64 = 1.05;
+/// The ratio of times up to which one build is not called slower than another:
+/// the same code at two places in memory differs by up to 0.02, and by more
+/// where a call takes a few nanoseconds.
+const NOISE: f64 = 1.03;
 
 /// A table: a heading, then rows of as many cells. The first two columns are
 /// text, the others numbers.
@@ -57,6 +59,11 @@ fn microseconds(time: Option<f64>) -> String {
     shown(time, |time| short(time / 1e3))
 }
 
+/// A ratio.
+fn three_decimals(ratio: Option<f64>) -> String {
+    shown(ratio, |ratio| format!("{ratio:.3}"))
+}
+
 /// a / b, where both are there.
 fn ratio(a: Option<f64>, b: Option<f64>) -> Option<f64> {
     Some(a? / b?)
@@ -73,18 +80,22 @@ fn one_product(rows: &[Measured]) -> Option<f64> {
     let row = rows
         .iter()
         .find(|row| (row.subject.entry, row.subject.form) == ONE_PRODUCT);
-    row.and_then(|row| row.times[LIBRARY])
+    row.and_then(|row| row.time(LIBRARY))
 }
 
 /// The table of all rows.
 pub fn entries(rows: &[Measured]) {
     println!("## Entries\n");
     println!(
-        "Microseconds for one call: the least of up to {REPETITIONS} repetitions of at least {} µs, all entries and implementations in turns,",
-        REPETITION.as_micros()
+        "Microseconds for one call: the median of up to {TURNS} turns, for the processes the least. In each turn all implementations of an entry are"
     );
-    println!("in one run and on the same inputs. Output buffers are not cleared between calls. `products` is the number of products in K that the");
-    println!("library's algorithm needs, and `library/products` the library's time in units of that many independent calls of `product`.");
+    println!(
+        "called one after another, for at least {} µs each and on the same inputs, in the opposite order in every second turn. A ratio of two",
+        LEAST.as_micros()
+    );
+    println!("implementations is the median of the turns' ratios, so it need not be the ratio of the two times shown. Output buffers are not cleared");
+    println!("between calls. `products` is the number of products in K that the library's algorithm needs, and `library/products` the library's time in");
+    println!("units of that many independent calls of `product`.");
     println!("`instructions` are those of one call, counted by callgrind; they repeat from run to run.\n");
 
     let other = ALL.len() > OTHER;
@@ -106,25 +117,16 @@ pub fn entries(rows: &[Measured]) {
     let one = one_product(rows);
     let cells = |row: &Measured| {
         let mut cells = vec![format!("`{}`", row.subject.entry), called_with(row)];
-        cells.extend(row.times.iter().map(|&time| microseconds(time)));
-        for &(a, b) in &ratios {
-            cells.push(shown(ratio(row.times[a], row.times[b]), |ratio| {
-                format!("{ratio:.3}")
-            }));
-        }
+        cells.extend((0..ALL.len()).map(|one| microseconds(row.time(one))));
+        cells.extend(ratios.iter().map(|&(a, b)| three_decimals(row.ratio(a, b))));
         let products = row.subject.products;
         cells.push(shown(products, |products| products.to_string()));
         let units = products.and_then(|products| Some(one? * products as f64));
-        cells.push(shown(ratio(row.times[LIBRARY], units), |ratio| {
-            format!("{ratio:.3}")
-        }));
+        cells.push(three_decimals(ratio(row.time(LIBRARY), units)));
         cells.push(shown(row.instructions[LIBRARY], |count| count.to_string()));
         let count = |one: usize| row.instructions[one].map(|count| count as f64);
-        for &(a, b) in &counts {
-            cells.push(shown(ratio(count(a), count(b)), |ratio| {
-                format!("{ratio:.3}")
-            }));
-        }
+        let of_counts = |&(a, b): &(usize, usize)| ratio(count(a), count(b));
+        cells.extend(counts.iter().map(of_counts).map(three_decimals));
         cells
     };
     print(heading, rows.iter().map(cells).collect());
@@ -148,7 +150,7 @@ fn slower(rows: &[Measured]) {
         }
     };
     let instructions = list(&|row| Some(row.instructions[LIBRARY]? > row.instructions[OTHER]?));
-    let times = list(&|row| Some(row.times[LIBRARY]? > NOISE * row.times[OTHER]?));
+    let times = list(&|row| Some(row.ratio(LIBRARY, OTHER)? > NOISE));
     println!(
         "Rows in which the library takes more instructions than the other build: {instructions}."
     );
@@ -184,12 +186,12 @@ pub fn growth(rows: &[Measured]) {
         };
         for row in growing(rows, entry) {
             let products = |row: &Measured| row.subject.products.map(|count| count as f64);
-            let times = |one: usize| ratio(row.times[one], products(row));
+            let times = |one: usize| ratio(row.time(one), products(row));
             cells.push(vec![
                 format!("`{entry}`"),
                 called_with(row),
-                microseconds(row.times[LIBRARY]),
-                shown(ratio(row.times[LIBRARY], first.times[LIBRARY]), short),
+                microseconds(row.time(LIBRARY)),
+                shown(ratio(row.time(LIBRARY), first.time(LIBRARY)), short),
                 shown(row.subject.products, |count| count.to_string()),
                 shown(ratio(products(row), products(first)), short),
                 shown(times(LIBRARY), short),

@@ -2,7 +2,6 @@
 
 use crate::element::COORDINATES;
 use crate::rows::Within;
-use reference::key::Sizes;
 use reference::{Key, Refusal};
 
 /// The largest element of F, which has all its digits set.
@@ -47,12 +46,10 @@ pub fn elements<'a>(
     Ok((a, b, out))
 }
 
-/// The slices that an entry with a key takes beside H and x.
-pub struct Slices<'a, const N: usize> {
-    /// The stated lengths.
-    pub lengths: fn(Sizes) -> [usize; N],
-    /// The lent lengths.
-    pub lent: [usize; N],
+/// The slices that an entry takes beside those of the key.
+pub struct Slices<'a> {
+    /// The name and the length of each.
+    pub lent: &'a [(&'a str, usize)],
     /// The bits.
     pub bits: &'a [u8],
     /// The slices of elements of K.
@@ -62,10 +59,9 @@ pub struct Slices<'a, const N: usize> {
 }
 
 /// The refusals 1 to 7, and the key where none applies.
-pub fn keyed<'a, const N: usize>(key: Key<'a>, slices: Slices<N>) -> Result<Within<'a>, Refusal> {
+pub fn keyed<'a>(key: Key<'a>, slices: Slices) -> Result<Within<'a>, Refusal> {
     let sizes = key.sizes()?;
-    key.judge_lengths(sizes, &[])?;
-    unless((slices.lengths)(sizes) != slices.lent, Refusal::SliceLength)?;
+    key.judge_lengths(sizes, slices.lent)?;
     unless(above(key.h) || above(key.x), Refusal::KeyElement)?;
     unless(longer(slices.bits, 1), Refusal::Bit)?;
     let mut elements = slices.elements.iter();

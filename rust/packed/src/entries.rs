@@ -4,7 +4,7 @@ use crate::checks::{elements, keyed, Slices};
 use crate::element::{load, plus, store, Element, Multiples, ZERO};
 use crate::fold;
 use crate::rows::{COEFFICIENTS, POLYNOMIALS};
-use reference::{Key, Refusal};
+use reference::{lent, Key, Refusal};
 
 /// The number of an answer.
 fn number(answer: Result<(), Refusal>) -> u32 {
@@ -26,7 +26,6 @@ pub fn product(a: &[u16], b: &[u16], out: &mut [u16]) -> u32 {
 }
 
 /// The entry constraints.
-#[allow(clippy::too_many_arguments)]
 pub fn constraints(
     key: Key<'_>,
     positions: &[u8],
@@ -36,22 +35,7 @@ pub fn constraints(
     polynomials: &mut [u16],
 ) -> u32 {
     let slices = Slices {
-        lengths: |sizes| {
-            [
-                sizes.position_bytes(),
-                sizes.bit_bytes(),
-                sizes.correlation_words(),
-                sizes.bit_bytes(),
-                sizes.polynomial_words(),
-            ]
-        },
-        lent: [
-            positions.len(),
-            u.len(),
-            v.len(),
-            t.len(),
-            polynomials.len(),
-        ],
+        lent: &lent![positions, u, v, t, polynomials],
         bits: u,
         elements: &[v],
         positions,
@@ -65,18 +49,9 @@ pub fn constraints(
 }
 
 /// The entry values.
-#[allow(clippy::too_many_arguments)]
 pub fn values(key: Key<'_>, t: &[u8], q: &[u16], delta: &[u16], values: &mut [u16]) -> u32 {
     let slices = Slices {
-        lengths: |sizes| {
-            [
-                sizes.bit_bytes(),
-                sizes.correlation_words(),
-                sizes.delta_words(),
-                sizes.weight_words(),
-            ]
-        },
-        lent: [t.len(), q.len(), delta.len(), values.len()],
+        lent: &lent![t, q, delta, values],
         bits: t,
         elements: &[q, delta],
         positions: &[],
@@ -102,28 +77,7 @@ pub fn prove(
     a: &mut [u16],
 ) -> u32 {
     let slices = Slices {
-        lengths: |sizes| {
-            [
-                sizes.position_bytes(),
-                sizes.bit_bytes(),
-                sizes.correlation_words(),
-                sizes.mask_words(),
-                sizes.mask_words(),
-                sizes.weight_words(),
-                sizes.bit_bytes(),
-                sizes.proof_words(),
-            ]
-        },
-        lent: [
-            positions.len(),
-            u.len(),
-            v.len(),
-            r.len(),
-            s.len(),
-            alpha.len(),
-            t.len(),
-            a.len(),
-        ],
+        lent: &lent![positions, u, v, r, s, alpha, t, a],
         bits: u,
         elements: &[v, r, s, alpha],
         positions,
@@ -148,7 +102,6 @@ pub fn prove(
 }
 
 /// The entry verify.
-#[allow(clippy::too_many_arguments)]
 pub fn verify(
     key: Key<'_>,
     t: &[u8],
@@ -159,24 +112,7 @@ pub fn verify(
     a: &[u16],
 ) -> u32 {
     let slices = Slices {
-        lengths: |sizes| {
-            [
-                sizes.bit_bytes(),
-                sizes.correlation_words(),
-                sizes.delta_words(),
-                sizes.mask_words(),
-                sizes.weight_words(),
-                sizes.proof_words(),
-            ]
-        },
-        lent: [
-            t.len(),
-            q.len(),
-            delta.len(),
-            masks.len(),
-            alpha.len(),
-            a.len(),
-        ],
+        lent: &lent![t, q, delta, masks, alpha, a],
         bits: t,
         elements: &[q, delta, masks, alpha, a],
         positions: &[],

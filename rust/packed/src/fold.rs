@@ -4,6 +4,7 @@
 
 use crate::element::{load, mask, masked, plus, Element, Multiples, ZERO};
 use crate::rows::{Within, COEFFICIENTS, COLUMNS};
+use reference::Key;
 
 /// The weights of a key's polynomials.
 struct Weights {
@@ -23,14 +24,15 @@ impl Weights {
             entries: [ZERO; COLUMNS],
             x: [0; COLUMNS],
         };
-        for j in 0..key.key.n {
+        let Key { n, m, h, x } = key.key;
+        for (j, &entry) in x.iter().enumerate() {
             weights.columns[j] = load(alpha, j);
-            weights.x[j] = u64::from(key.key.x[j]);
+            weights.x[j] = u64::from(entry);
         }
-        for e in 0..key.key.m {
-            let multiples = Multiples::of(load(alpha, key.key.n + e));
-            for i in 0..key.key.n {
-                let term = multiples.scaled(u64::from(key.key.h[e * key.key.n + i]));
+        for e in 0..m {
+            let multiples = Multiples::of(load(alpha, n + e));
+            for i in 0..n {
+                let term = multiples.scaled(u64::from(h[e * n + i]));
                 weights.entries[i] = plus(weights.entries[i], term);
             }
         }

@@ -27,19 +27,20 @@ impl Within<'_> {
     /// Adds row i's share to the n + m sums of `size` coefficients each. The
     /// row's products stand in `work`.
     fn share(self, sums: &mut [Element], work: &[Element], size: usize, i: usize) {
-        let columns = size * self.key.n;
+        let Key { n, m, h, x } = self.key;
+        let columns = size * n;
         for (sum, &product) in sums.iter_mut().zip(&work[..columns]) {
             *sum = plus(*sum, product);
         }
         for k in 0..size {
             let mut entry = Sums::new();
-            for j in 0..self.key.n {
-                entry.add(work[size * j + k], u64::from(self.key.x[j]));
+            for j in 0..n {
+                entry.add(work[size * j + k], u64::from(x[j]));
             }
             let multiples = Multiples::of(entry.total());
-            for e in 0..self.key.m {
+            for e in 0..m {
                 let sum = &mut sums[columns + size * e + k];
-                let factor = u64::from(self.key.h[e * self.key.n + i]);
+                let factor = u64::from(h[e * n + i]);
                 *sum = plus(*sum, multiples.scaled(factor));
             }
         }

@@ -49,13 +49,13 @@ fn main() -> Result<(), Box<dyn Error>> {
     let verdict = perk::verify(key, &t, &q, &delta, &[], &alpha, &a)?;
     println!("{verdict}");
 
-    // the check file, whose first bytes are the package
+    // the check file, which begins with the package
     let contents = perk::read_check_file(CHECK_FILE)?;
     println!(
         "serial {} n {} m {}",
         contents.serial, contents.n, contents.m
     );
-    let package = &CHECK_FILE[..contents.package_len()];
+    let package = perk::package_of(CHECK_FILE)?;
     println!("t = {:?}", perk::field(package, T));
     println!("{}", perk::check(CHECK_FILE)?);
     Ok(())

@@ -4,8 +4,8 @@
 //! Each function calls the C function of its name. That function is proved, for
 //! every content and every length of its slices, to read and write nothing
 //! else, to end, and to answer as stated here. What this crate adds is not
-//! proved: pointers and lengths, enums for numbers, and functions that work out
-//! lengths for the caller. It needs no `std` and no heap.
+//! proved: pointers and lengths, enums for numbers, [`digits`] and
+//! [`package_of`]. It needs no `std` and no heap.
 //!
 //! # Elements
 //!
@@ -53,12 +53,33 @@
 #![deny(unsafe_op_in_unsafe_fn)]
 #![deny(clippy::undocumented_unsafe_blocks)]
 
+/// Calls a function of libperk.a: with numbers or a key, then the slices that
+/// it reads, then those that it writes, each as a pointer and a length.
+macro_rules! call {
+    ($function:ident ($($number:expr),*) ($($read:expr),*) ($($written:expr),*)) => {
+        // SAFETY: each pointer and length are those of one slice, so they name
+        // aligned memory that is valid to read and, where the function writes,
+        // to write. A slice that is written is an exclusive borrow, so it
+        // overlaps no other slice.
+        unsafe {
+            $crate::c::$function(
+                $($number,)*
+                $(<[_]>::as_ptr($read), <[_]>::len($read),)*
+                $(<[_]>::as_mut_ptr($written), <[_]>::len($written),)*
+            )
+        }
+    };
+    ($function:ident $key:ident ($($read:expr),*) ($($written:expr),*)) => {
+        call!($function ($key.n, $key.m) ($key.h, $key.x, $($read),*) ($($written),*))
+    };
+}
+
 #[doc(hidden)]
 pub mod c;
 mod package;
 mod refusal;
 
-pub use package::{check, field, read_check_file, read_package, Contents};
+pub use package::{check, field, package_of, read_check_file, read_package, Contents};
 pub use refusal::{Refusal, Verdict};
 
 /// The words of an element of K.
@@ -113,19 +134,7 @@ pub struct Masks<'a> {
 /// [`Length`](Refusal::Length) (`a`, `b`, `out`),
 /// [`Coordinate`](Refusal::Coordinate) (`a`, `b`).
 pub fn sum(a: &[u16], b: &[u16], out: &mut [u16]) -> Result<(), Refusal> {
-    // SAFETY: each pointer and length are those of one slice, so they name
-    // aligned memory that is valid to read, and for `out` to write. `out` is an
-    // exclusive borrow, so it overlaps neither input.
-    refusal::answer(unsafe {
-        c::perk_sum(
-            a.as_ptr(),
-            a.len(),
-            b.as_ptr(),
-            b.len(),
-            out.as_mut_ptr(),
-            out.len(),
-        )
-    })
+    refusal::answer(call!(perk_sum()(a, b)(out)))
 }
 
 /// `out` becomes a times b in K. Each of the three has 12 words.
@@ -135,19 +144,7 @@ pub fn sum(a: &[u16], b: &[u16], out: &mut [u16]) -> Result<(), Refusal> {
 /// [`Length`](Refusal::Length) (`a`, `b`, `out`),
 /// [`Coordinate`](Refusal::Coordinate) (`a`, `b`).
 pub fn product(a: &[u16], b: &[u16], out: &mut [u16]) -> Result<(), Refusal> {
-    // SAFETY: each pointer and length are those of one slice, so they name
-    // aligned memory that is valid to read, and for `out` to write. `out` is an
-    // exclusive borrow, so it overlaps neither input.
-    refusal::answer(unsafe {
-        c::perk_product(
-            a.as_ptr(),
-            a.len(),
-            b.as_ptr(),
-            b.len(),
-            out.as_mut_ptr(),
-            out.len(),
-        )
-    })
+    refusal::answer(call!(perk_product()(a, b)(out)))
 }
 
 /// Writes the masked witness and the n + m constraint polynomials of a key.
@@ -181,32 +178,8 @@ pub fn constraints(
     t: &mut [u8],
     polynomials: &mut [u16],
 ) -> Result<(), Refusal> {
-    let Key { n, m, h, x } = key;
     let Prover { positions, u, v } = prover;
-    // SAFETY: each pointer and length are those of one slice, so they name
-    // aligned memory that is valid to read, and for `t` and `polynomials` to
-    // write. These two are exclusive borrows, so neither overlaps any other
-    // slice.
-    refusal::answer(unsafe {
-        c::perk_constraints(
-            n,
-            m,
-            h.as_ptr(),
-            h.len(),
-            x.as_ptr(),
-            x.len(),
-            positions.as_ptr(),
-            positions.len(),
-            u.as_ptr(),
-            u.len(),
-            v.as_ptr(),
-            v.len(),
-            t.as_mut_ptr(),
-            t.len(),
-            polynomials.as_mut_ptr(),
-            polynomials.len(),
-        )
-    })
+    refusal::answer(call!(perk_constraints key (positions, u, v) (t, polynomials)))
 }
 
 /// Writes the verifier's n + m values of a key.
@@ -231,28 +204,7 @@ pub fn values(
     delta: &[u16],
     values: &mut [u16],
 ) -> Result<(), Refusal> {
-    let Key { n, m, h, x } = key;
-    // SAFETY: each pointer and length are those of one slice, so they name
-    // aligned memory that is valid to read, and for `values` to write. `values`
-    // is an exclusive borrow, so it overlaps no input.
-    refusal::answer(unsafe {
-        c::perk_values(
-            n,
-            m,
-            h.as_ptr(),
-            h.len(),
-            x.as_ptr(),
-            x.len(),
-            t.as_ptr(),
-            t.len(),
-            q.as_ptr(),
-            q.len(),
-            delta.as_ptr(),
-            delta.len(),
-            values.as_mut_ptr(),
-            values.len(),
-        )
-    })
+    refusal::answer(call!(perk_values key (t, q, delta) (values)))
 }
 
 /// Writes the masked witness and the proof of a key.
@@ -290,38 +242,9 @@ pub fn prove(
     t: &mut [u8],
     a: &mut [u16],
 ) -> Result<(), Refusal> {
-    let Key { n, m, h, x } = key;
     let Prover { positions, u, v } = prover;
     let Masks { r, s } = masks;
-    // SAFETY: each pointer and length are those of one slice, so they name
-    // aligned memory that is valid to read, and for `t` and `a` to write. These
-    // two are exclusive borrows, so neither overlaps any other slice.
-    refusal::answer(unsafe {
-        c::perk_prove(
-            n,
-            m,
-            h.as_ptr(),
-            h.len(),
-            x.as_ptr(),
-            x.len(),
-            positions.as_ptr(),
-            positions.len(),
-            u.as_ptr(),
-            u.len(),
-            v.as_ptr(),
-            v.len(),
-            r.as_ptr(),
-            r.len(),
-            s.as_ptr(),
-            s.len(),
-            alpha.as_ptr(),
-            alpha.len(),
-            t.as_mut_ptr(),
-            t.len(),
-            a.as_mut_ptr(),
-            a.len(),
-        )
-    })
+    refusal::answer(call!(perk_prove key (positions, u, v, r, s, alpha) (t, a)))
 }
 
 /// Whether a proof is accepted: exactly when `a` at the challenge equals the
@@ -358,29 +281,5 @@ pub fn verify(
     alpha: &[u16],
     a: &[u16],
 ) -> Result<Verdict, Refusal> {
-    let Key { n, m, h, x } = key;
-    // SAFETY: each pointer and length are those of one slice, so they name
-    // aligned memory that is valid to read. Nothing is written.
-    refusal::verdict(unsafe {
-        c::perk_verify(
-            n,
-            m,
-            h.as_ptr(),
-            h.len(),
-            x.as_ptr(),
-            x.len(),
-            t.as_ptr(),
-            t.len(),
-            q.as_ptr(),
-            q.len(),
-            delta.as_ptr(),
-            delta.len(),
-            masks.as_ptr(),
-            masks.len(),
-            alpha.as_ptr(),
-            alpha.len(),
-            a.as_ptr(),
-            a.len(),
-        )
-    })
+    refusal::verdict(call!(perk_verify key (t, q, delta, masks, alpha, a) ()))
 }

@@ -1,7 +1,10 @@
 //! Packages and check files.
 
+use crate::c;
 use crate::refusal::{self, Refusal, Verdict};
-use crate::{c, digits};
+
+/// The tag of q, the first field that a check file has after its package.
+const Q: u8 = 0x11;
 
 /// The sizes and the serial of a package or a check file.
 #[derive(Clone, Copy, Debug, PartialEq, Eq)]
@@ -12,17 +15,6 @@ pub struct Contents {
     pub m: usize,
     /// The serial, 0 to 65535.
     pub serial: u32,
-}
-
-impl Contents {
-    /// The number of bytes of a package of these sizes. The package of a check
-    /// file is as many bytes of it, from the first on.
-    pub const fn package_len(&self) -> usize {
-        let Contents { n, m, .. } = *self;
-        let d = digits(n);
-        let contents = 2 + 2 * m * n + 2 * n + 2 + n * d + 24 * d;
-        6 * 3 + contents
-    }
 }
 
 /// A function of libperk.a that reads n, m and the serial.
@@ -92,12 +84,30 @@ pub fn read_check_file(bytes: &[u8]) -> Result<Contents, Refusal> {
     read(c::perk_read_check_file, bytes)
 }
 
+/// The package that a check file begins with: the caller's own bytes before its
+/// field 11.
+///
+/// # Errors
+///
+/// Those of [`read_check_file`], in the same order.
+pub fn package_of(check_file: &[u8]) -> Result<&[u8], Refusal> {
+    read_check_file(check_file)?;
+    let mut rest = check_file;
+    while let [tag, high, low, after @ ..] = rest {
+        if *tag == Q {
+            break;
+        }
+        let length = u16::from_be_bytes([*high, *low]);
+        rest = after.get(usize::from(length)..).unwrap_or_default();
+    }
+    Ok(&check_file[..check_file.len() - rest.len()])
+}
+
 /// The content of the field with this tag in a package: the caller's own bytes.
 /// It is empty for a package that [`read_package`] refuses, and for a tag that a
 /// package does not have; no field of a package is empty.
 ///
-/// A check file is no package; [`Contents::package_len`] says how many of its
-/// bytes are one.
+/// A check file is no package; [`package_of`] finds the one that it begins with.
 pub fn field(bytes: &[u8], tag: u8) -> &[u8] {
     let mut start = 0;
     // SAFETY: the pointer and the length are those of one slice, so they name
@@ -114,7 +124,5 @@ pub fn field(bytes: &[u8], tag: u8) -> &[u8] {
 ///
 /// Those of [`read_check_file`], in the same order.
 pub fn check(bytes: &[u8]) -> Result<Verdict, Refusal> {
-    // SAFETY: the pointer and the length are those of one slice, so they name
-    // memory that is valid to read. Nothing is written.
-    refusal::verdict(unsafe { c::perk_check(bytes.as_ptr(), bytes.len()) })
+    refusal::verdict(call!(perk_check()(bytes)()))
 }

@@ -13,29 +13,29 @@ pub enum Refusal {
     /// 1: n is below 2 or above 64.
     Size = 1,
     /// 2: m is 0, or at least n.
-    Rows,
+    Rows = 2,
     /// 3: a slice is not of its stated length.
-    Length,
+    Length = 3,
     /// 4: an element of H or x is above 2047.
-    Key,
+    Key = 4,
     /// 5: a byte of u or t is above 1.
-    Bit,
+    Bit = 5,
     /// 6: a coordinate of an element of K is above 2047.
-    Coordinate,
+    Coordinate = 6,
     /// 7: a position is 2^d or more.
-    Position,
+    Position = 7,
     /// 8: a top coefficient of the n + m polynomials is not zero: the
     /// positions do not solve the key.
-    Top,
+    Top = 8,
     /// 9: fewer bytes remain than tag and length need, or than a field's
     /// content.
-    Short,
+    Short = 9,
     /// 10: not the tag that comes next.
-    Tag,
+    Tag = 10,
     /// 11: not the length that the field has for these sizes.
-    Field,
+    Field = 11,
     /// 12: bytes follow the last field.
-    End,
+    End = 12,
 }
 
 impl Refusal {
@@ -55,7 +55,7 @@ impl Refusal {
         Refusal::End,
     ];
 
-    /// Its number, 1 to 12, as `perk.h` lists them.
+    /// Its number, as `perk.h` lists them.
     pub const fn number(self) -> u32 {
         self as u32
     }

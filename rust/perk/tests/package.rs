@@ -1,10 +1,10 @@
 //! Packages and check files: those of key A, as the specification writes them in
 //! hexadecimal, and one fault or two in each place.
 
-use perk::{check, field, read_check_file, read_package, Contents, Refusal, Verdict};
+use perk::{check, field, package_of, read_check_file, read_package, Contents, Refusal, Verdict};
 
-/// The fields of key A's check file: tag, length, content. The first six are its
-/// package; "0.." is 22 zero bytes.
+/// The fields of key A's check file: tag, length, content. "0.." is 22 zero
+/// bytes.
 const FIELDS: [&str; 10] = [
     "01 0002 0201",
     "02 0004 0002 0001",
@@ -17,6 +17,11 @@ const FIELDS: [&str; 10] = [
     "13 0018 0002 0..",
     "14 0048 0001 0.. 0002 0.. 0001 0..",
 ];
+
+/// Whether a field of a check file belongs to its package.
+fn of_package(tag: u8) -> bool {
+    tag < 0x11
+}
 
 /// What the reader answers for key A.
 const KEY_A: Contents = Contents {
@@ -33,23 +38,41 @@ fn bytes(field: &str) -> Vec<u8> {
     pairs.map(|p| 16 * digit(p[0]) + digit(p[1])).collect()
 }
 
-/// The fields of key A's check file with some of them replaced.
-fn fields(replaced: &[(usize, &str)]) -> Vec<Vec<u8>> {
-    let mut fields = FIELDS.map(bytes).to_vec();
-    for (index, field) in replaced {
-        fields[*index] = bytes(field);
-    }
-    fields
+/// The tag of a field.
+fn tag(field: &str) -> u8 {
+    bytes(field)[0]
+}
+
+/// The field of key A's check file with this tag.
+fn of_key_a(wanted: u8) -> &'static str {
+    let field = FIELDS.iter().find(|field| tag(field) == wanted);
+    field.expect("a tag of a check file")
+}
+
+/// Fields in the place of those with these tags.
+type Replaced<'a> = [(u8, &'a str)];
+
+/// The fields of key A's check file whose tags are chosen, with some of them
+/// replaced.
+fn joined(chosen: impl Fn(u8) -> bool, replaced: &Replaced) -> Vec<u8> {
+    let fields = FIELDS.iter().filter(|field| chosen(tag(field)));
+    let fields = fields.flat_map(|field| {
+        let other = replaced
+            .iter()
+            .find(|(replaced, _)| *replaced == tag(field));
+        bytes(other.map_or(*field, |(_, other)| *other))
+    });
+    fields.collect()
 }
 
 /// The package of key A, with some fields replaced.
-fn package(replaced: &[(usize, &str)]) -> Vec<u8> {
-    fields(replaced)[..6].concat()
+fn package(replaced: &Replaced) -> Vec<u8> {
+    joined(of_package, replaced)
 }
 
 /// The check file of key A, with some fields replaced.
-fn check_file(replaced: &[(usize, &str)]) -> Vec<u8> {
-    fields(replaced).concat()
+fn check_file(replaced: &Replaced) -> Vec<u8> {
+    joined(|_| true, replaced)
 }
 
 /// A package is refused with this number, and has no field.
@@ -68,9 +91,9 @@ fn check_file_refused(bytes: &[u8], number: u32) {
 
 /// Key A's file is refused with this number when these fields are replaced: the
 /// check file, and the package when it has all of them.
-fn refused(replaced: &[(usize, &str)], number: u32) {
+fn refused(replaced: &Replaced, number: u32) {
     check_file_refused(&check_file(replaced), number);
-    if replaced.iter().all(|(index, _)| *index < 6) {
+    if replaced.iter().all(|(tag, _)| of_package(*tag)) {
         package_refused(&package(replaced), number);
     }
 }
@@ -88,45 +111,69 @@ fn key_a_is_read() {
 #[test]
 fn key_a_is_accepted() {
     assert_eq!(check(&check_file(&[])), Ok(Verdict::Accepted));
-    let wrong = check_file(&[(5, "07 0018 0004 0..")]);
+    let wrong = check_file(&[(0x07, "07 0018 0004 0..")]);
     assert_eq!(check(&wrong), Ok(Verdict::Rejected));
     assert_eq!(read_check_file(&wrong), Ok(KEY_A));
 }
 
 #[test]
 fn a_package_begins_its_check_file() {
-    assert_eq!(KEY_A.package_len(), 56);
-    assert_eq!(package(&[]), check_file(&[])[..KEY_A.package_len()]);
-    let largest = Contents {
-        n: 64,
-        m: 63,
-        serial: 0,
-    };
-    assert_eq!(
-        largest.package_len(),
-        18 + 2 + 8064 + 128 + 2 + 64 * 6 + 24 * 6
-    );
+    let file = check_file(&[]);
+    let found = package_of(&file).expect("key A's check file");
+    assert_eq!(found, package(&[]));
+    assert_eq!(found.as_ptr(), file.as_ptr());
+    let largest = include_bytes!("../../../crates/perkcheck_cases/data/largest");
+    let found = package_of(largest).expect("an accepted check file");
+    assert_eq!(found.len(), 18 + 2 + 8064 + 128 + 2 + 64 * 6 + 24 * 6);
+    assert_eq!(read_package(found), read_check_file(largest));
+}
+
+#[test]
+fn a_refused_check_file_has_no_package() {
+    let file = check_file(&[]);
+    for len in 0..file.len() {
+        assert_eq!(package_of(&file[..len]), Err(Refusal::Short));
+    }
+    assert_eq!(package_of(&[&file[..], &[0]].concat()), Err(Refusal::End));
+    let above = check_file(&[(0x14, "14 0048 0800 0.. 0002 0.. 0001 0..")]);
+    assert_eq!(package_of(&above), Err(Refusal::Coordinate));
+}
+
+// q's tag as the content of other fields is no head.
+#[test]
+fn the_package_ends_at_the_head_of_q() {
+    for (tag, text) in [
+        (0x02, "02 0004 0111 0030"),
+        (0x03, "03 0004 0011 0011"),
+        (0x05, "05 0002 1111"),
+        (0x07, "07 0018 0111 0.."),
+    ] {
+        let file = check_file(&[(tag, text)]);
+        assert_eq!(package_of(&file), Ok(&package(&[(tag, text)])[..]));
+    }
 }
 
 #[test]
 fn fields_are_the_callers_bytes() {
     let package = package(&[]);
     let mut start = 0;
-    for text in &FIELDS[..6] {
+    for text in FIELDS.iter().filter(|field| of_package(tag(field))) {
         let bytes = bytes(text);
         let content = field(&package, bytes[0]);
         assert_eq!(content, &bytes[3..]);
         assert_eq!(content.as_ptr(), package[start + 3..].as_ptr());
         start += bytes.len();
     }
+    assert_eq!(start, package.len());
     assert_eq!(field(&package, 0x06), [1, 1]);
 }
 
 #[test]
 fn an_absent_tag_has_no_content() {
     let package = package(&[]);
-    let present = [0x01, 0x02, 0x03, 0x05, 0x06, 0x07];
-    for tag in (0..=255).filter(|tag| !present.contains(tag)) {
+    let present = FIELDS.map(tag);
+    let present = |tag: &u8| of_package(*tag) && present.contains(tag);
+    for tag in (0..=255).filter(|tag| !present(tag)) {
         assert_eq!(field(&package, tag), []);
     }
 }
@@ -136,10 +183,10 @@ fn any_serial_is_read() {
     for serial in [0, 1, 255, 256, 65535] {
         let replaced = format!("05 0002 {serial:04x}");
         let contents = Contents { serial, ..KEY_A };
-        let package = package(&[(3, &replaced)]);
+        let package = package(&[(0x05, &replaced)]);
         assert_eq!(read_package(&package), Ok(contents));
         assert_eq!(field(&package, 0x05), (serial as u16).to_be_bytes());
-        let file = check_file(&[(3, &replaced)]);
+        let file = check_file(&[(0x05, &replaced)]);
         assert_eq!(read_check_file(&file), Ok(contents));
         assert_eq!(check(&file), Ok(Verdict::Accepted));
     }
@@ -170,27 +217,27 @@ fn bytes_after_the_last_field() {
 
 #[test]
 fn another_tag_in_each_field() {
-    for (index, field) in FIELDS.iter().enumerate() {
-        for tag in [0x00, 0x04, 0x08, 0xFF] {
-            let text = format!("{tag:02x}{}", &field[2..]);
-            refused(&[(index, &text)], 10);
+    for field in FIELDS {
+        for other in [0x00, 0x04, 0x08, 0xFF] {
+            let text = format!("{other:02x}{}", &field[2..]);
+            refused(&[(tag(field), &text)], 10);
         }
     }
 }
 
 #[test]
 fn fields_in_another_order() {
-    refused(&[(1, FIELDS[2]), (2, FIELDS[1])], 10);
-    refused(&[(7, FIELDS[8]), (8, FIELDS[7])], 10);
+    refused(&[(0x02, of_key_a(0x03)), (0x03, of_key_a(0x02))], 10);
+    refused(&[(0x12, of_key_a(0x13)), (0x13, of_key_a(0x12))], 10);
 }
 
 #[test]
 fn another_length_in_each_field() {
-    for (index, field) in FIELDS.iter().enumerate() {
-        let (tag, length, content) = (&field[..2], &field[3..7], &field[7..]);
+    for field in FIELDS {
+        let (head, length, content) = (&field[..2], &field[3..7], &field[7..]);
         let length = u16::from_str_radix(length, 16).expect("a length");
         for other in [length ^ 1, length + 2, length ^ 256, 65535] {
-            refused(&[(index, &format!("{tag}{other:04x}{content}"))], 11);
+            refused(&[(tag(field), &format!("{head}{other:04x}{content}"))], 11);
         }
     }
 }
@@ -198,72 +245,78 @@ fn another_length_in_each_field() {
 #[test]
 fn sizes_out_of_bounds() {
     for sizes in ["0101", "0100", "0001", "0000", "4101", "4141", "ff01"] {
-        refused(&[(0, &format!("01 0002 {sizes}"))], 1);
+        refused(&[(0x01, &format!("01 0002 {sizes}"))], 1);
     }
     for sizes in ["0200", "0202", "02ff", "4000", "4040"] {
-        refused(&[(0, &format!("01 0002 {sizes}"))], 2);
+        refused(&[(0x01, &format!("01 0002 {sizes}"))], 2);
     }
 }
 
 #[test]
 fn elements_above_the_limit() {
-    refused(&[(1, "02 0004 0800 0001")], 4);
-    refused(&[(1, "02 0004 0002 0800")], 4);
-    refused(&[(2, "03 0004 0800 0002")], 4);
-    refused(&[(2, "03 0004 0001 ffff")], 4);
-    refused(&[(4, "06 0002 0201")], 5);
-    refused(&[(4, "06 0002 01ff")], 5);
-    refused(&[(5, "07 0018 0800 0..")], 6);
-    refused(&[(5, "07 0018 0.. 0800")], 6);
-    refused(&[(6, "11 0030 0800 0.. 0004 0..")], 6);
-    refused(&[(6, "11 0030 0003 0.. 0.. 0800")], 6);
-    refused(&[(8, "13 0018 0800 0..")], 6);
-    refused(&[(8, "13 0018 0.. 0800")], 6);
-    refused(&[(9, "14 0048 0800 0.. 0002 0.. 0001 0..")], 6);
-    refused(&[(9, "14 0048 0001 0.. 0002 0.. 0.. 0800")], 6);
+    refused(&[(0x02, "02 0004 0800 0001")], 4);
+    refused(&[(0x02, "02 0004 0002 0800")], 4);
+    refused(&[(0x03, "03 0004 0800 0002")], 4);
+    refused(&[(0x03, "03 0004 0001 ffff")], 4);
+    refused(&[(0x06, "06 0002 0201")], 5);
+    refused(&[(0x06, "06 0002 01ff")], 5);
+    refused(&[(0x07, "07 0018 0800 0..")], 6);
+    refused(&[(0x07, "07 0018 0.. 0800")], 6);
+    refused(&[(0x11, "11 0030 0800 0.. 0004 0..")], 6);
+    refused(&[(0x11, "11 0030 0003 0.. 0.. 0800")], 6);
+    refused(&[(0x13, "13 0018 0800 0..")], 6);
+    refused(&[(0x13, "13 0018 0.. 0800")], 6);
+    refused(&[(0x14, "14 0048 0800 0.. 0002 0.. 0001 0..")], 6);
+    refused(&[(0x14, "14 0048 0001 0.. 0002 0.. 0.. 0800")], 6);
 }
 
 #[test]
 fn the_limit_itself() {
-    for (index, text) in [
-        (1, "02 0004 07ff 0001"),
-        (2, "03 0004 0001 07ff"),
-        (5, "07 0018 07ff 0.."),
-        (6, "11 0030 07ff 0.. 0004 0.."),
-        (8, "13 0018 0.. 07ff"),
-        (9, "14 0048 0001 0.. 0002 0.. 0.. 07ff"),
+    for (tag, text) in [
+        (0x02, "02 0004 07ff 0001"),
+        (0x03, "03 0004 0001 07ff"),
+        (0x07, "07 0018 07ff 0.."),
+        (0x11, "11 0030 07ff 0.. 0004 0.."),
+        (0x13, "13 0018 0.. 07ff"),
+        (0x14, "14 0048 0001 0.. 0002 0.. 0.. 07ff"),
     ] {
-        assert_eq!(read_check_file(&check_file(&[(index, text)])), Ok(KEY_A));
-        assert!(check(&check_file(&[(index, text)])).is_ok());
-        assert_eq!(read_package(&package(&[(index, text)])), Ok(KEY_A));
+        assert_eq!(read_check_file(&check_file(&[(tag, text)])), Ok(KEY_A));
+        assert!(check(&check_file(&[(tag, text)])).is_ok());
+        assert_eq!(read_package(&package(&[(tag, text)])), Ok(KEY_A));
     }
 }
 
 #[test]
 fn places_of_a_field_in_their_order() {
     // tag before length, length before content, content before values
-    refused(&[(1, "03 0005 0800 0001")], 10);
-    refused(&[(1, "02 0005 0800 0001")], 11);
+    refused(&[(0x02, "03 0005 0800 0001")], 10);
+    refused(&[(0x02, "02 0005 0800 0001")], 11);
     package_refused(&bytes("01 0003"), 11);
     package_refused(&bytes("01 0002 01"), 9);
-    package_refused(&[bytes(FIELDS[0]), bytes("02 0004 0800 00")].concat(), 9);
+    package_refused(
+        &[bytes(of_key_a(0x01)), bytes("02 0004 0800 00")].concat(),
+        9,
+    );
     // n before m
-    refused(&[(0, "01 0002 0100")], 1);
+    refused(&[(0x01, "01 0002 0100")], 1);
 }
 
 #[test]
 fn fields_one_after_another() {
     // a value of one field before the head of the next
-    refused(&[(0, "01 0002 0101"), (1, "ff 0004 0002 0001")], 1);
-    refused(&[(1, "02 0004 0800 0001"), (2, "ff 0004 0001 0002")], 4);
-    refused(&[(1, "ff 0004 0002 0001"), (0, "01 0002 0202")], 2);
-    refused(&[(4, "06 0002 0201"), (5, "07 0018 0800 0..")], 5);
-    refused(&[(5, "07 0018 0800 0.."), (8, "13 0019 0002 0..")], 6);
+    refused(&[(0x01, "01 0002 0101"), (0x02, "ff 0004 0002 0001")], 1);
+    refused(
+        &[(0x02, "02 0004 0800 0001"), (0x03, "ff 0004 0001 0002")],
+        4,
+    );
+    refused(&[(0x02, "ff 0004 0002 0001"), (0x01, "01 0002 0202")], 2);
+    refused(&[(0x06, "06 0002 0201"), (0x07, "07 0018 0800 0..")], 5);
+    refused(&[(0x07, "07 0018 0800 0.."), (0x13, "13 0019 0002 0..")], 6);
     // a value of the last field before bytes that follow
-    let spoilt = package(&[(5, "07 0018 0800 0..")]);
+    let spoilt = package(&[(0x07, "07 0018 0800 0..")]);
     package_refused(&[&spoilt[..], &[0]].concat(), 6);
     // a package's sizes decide the lengths: H of n = 3, m = 2 has 12 bytes
-    refused(&[(0, "01 0002 0302")], 11);
+    refused(&[(0x01, "01 0002 0302")], 11);
 }
 
 #[test]
@@ -289,7 +342,7 @@ fn three_positions_with_masks() {
     };
     assert_eq!(read_check_file(&file), Ok(contents));
     assert_eq!(check(&file), Ok(Verdict::Accepted));
-    let package = &file[..contents.package_len()];
+    let package = package_of(&file).expect("a check file");
     assert_eq!(read_package(package), Ok(contents));
     assert_eq!(field(package, 0x06), [1, 1, 1, 1, 0, 1]);
     // the mask number 40 becomes 41

@@ -1,4 +1,4 @@
-//! Refusals 1 to 8 of the functions of a key: each of them, for every slice, and
+//! The refusals of the functions of a key: each of them, for every slice, and
 //! the order in which they are tried.
 
 mod common;
@@ -9,25 +9,23 @@ use perk::{Refusal, Verdict};
 /// Makes one fault in a case.
 type Fault = fn(&mut Case);
 
-/// One function of a key: its name, its call, and its faults with their
-/// numbers.
+/// One function of a key.
 struct Entry {
     name: &'static str,
     call: fn(&mut Case) -> Result<(), Refusal>,
+    /// The numbers of its refusals, in the order in which they are tried.
+    order: &'static [u32],
+    /// Its faults with their numbers.
     faults: Vec<(u32, Fault)>,
 }
 
-/// Sizes that are refused.
-const SIZES: [(u32, Fault); 8] = [
-    (2, |case| case.m = 0),
-    (2, |case| case.m = case.n),
-    (2, |case| case.m = case.n + 1),
-    (2, |case| case.m = usize::MAX),
-    (1, |case| case.n = 0),
-    (1, |case| case.n = 1),
-    (1, |case| case.n = 65),
-    (1, |case| case.n = usize::MAX),
-];
+impl Entry {
+    /// The place of a number in the order.
+    fn place(&self, number: u32) -> usize {
+        let place = self.order.iter().position(|other| *other == number);
+        place.expect("a number of the entry")
+    }
+}
 
 /// The last element is missing, there is one more, or there is none.
 macro_rules! lengths {
@@ -53,43 +51,62 @@ macro_rules! elements {
     };
 }
 
+/// Sizes that are refused.
+const SIZES: [(u32, Fault); 8] = [
+    (2, |case| case.m = 0),
+    (2, |case| case.m = case.n),
+    (2, |case| case.m = case.n + 1),
+    (2, |case| case.m = usize::MAX),
+    (1, |case| case.n = 0),
+    (1, |case| case.n = 1),
+    (1, |case| case.n = 65),
+    (1, |case| case.n = usize::MAX),
+];
+
+/// The faults of a key.
+fn of_key() -> Vec<(u32, Fault)> {
+    [
+        &SIZES[..],
+        &lengths![h x],
+        &elements![4, 2048, h x],
+        &elements![4, 65535, h x],
+    ]
+    .concat()
+}
+
 /// The four functions of a key.
 fn entries() -> [Entry; 4] {
-    let key = || {
-        let mut faults = elements![4, 2048, h x].to_vec();
-        faults.extend(elements![4, 65535, h x]);
-        faults
-    };
     [
         Entry {
             name: "constraints",
             call: Case::constraints,
+            order: &[1, 2, 3, 4, 5, 6, 7],
             faults: [
                 &elements![7, 4, positions][..],
                 &elements![7, 255, positions],
                 &elements![6, 2048, v],
                 &elements![5, 2, u],
-                &key(),
-                &lengths![h x positions u v t_out polynomials],
-                &SIZES,
+                &of_key(),
+                &lengths![positions u v t_out polynomials],
             ]
             .concat(),
         },
         Entry {
             name: "values",
             call: Case::values,
+            order: &[1, 2, 3, 4, 5, 6],
             faults: [
                 &elements![6, 2048, q delta][..],
                 &elements![5, 2, t],
-                &key(),
-                &lengths![h x t q delta values],
-                &SIZES,
+                &of_key(),
+                &lengths![t q delta values],
             ]
             .concat(),
         },
         Entry {
             name: "prove",
             call: Case::prove,
+            order: &[1, 2, 3, 4, 5, 6, 7, 8],
             faults: [
                 &[
                     (8, (|case| case.positions = vec![1, 1, 1]) as Fault),
@@ -100,21 +117,20 @@ fn entries() -> [Entry; 4] {
                 &elements![7, 255, positions],
                 &elements![6, 2048, v r s alpha],
                 &elements![5, 2, u],
-                &key(),
-                &lengths![h x positions u v r s alpha t_out a_out],
-                &SIZES,
+                &of_key(),
+                &lengths![positions u v r s alpha t_out a_out],
             ]
             .concat(),
         },
         Entry {
             name: "verify",
             call: |case| case.verify().map(|_| ()),
+            order: &[1, 2, 3, 4, 5, 6],
             faults: [
                 &elements![6, 2048, q delta masks alpha a][..],
                 &elements![5, 2, t],
-                &key(),
-                &lengths![h x t q delta masks alpha a],
-                &SIZES,
+                &of_key(),
+                &lengths![t q delta masks alpha a],
             ]
             .concat(),
         },
@@ -147,73 +163,68 @@ fn each_fault_is_refused() {
     }
 }
 
-// The faults of an entry are listed from the last refusal to the first, so that
-// one that shortens a slice is made after one that sets an element.
+// The fault that is refused later is made first, so that one that shortens a
+// slice is made after one that sets an element.
 #[test]
-fn of_two_faults_the_lower_number_is_the_answer() {
+fn of_two_faults_the_first_in_order_is_the_answer() {
     for entry in entries() {
-        for (second, (higher, later)) in entry.faults.iter().enumerate() {
-            for (first, (lower, earlier)) in entry.faults.iter().enumerate().skip(second) {
-                assert!(lower <= higher);
+        let mut faults = entry.faults.clone();
+        faults.sort_by_key(|(number, _)| entry.place(*number));
+        for (first, (number, earlier)) in faults.iter().enumerate() {
+            for (second, (other, later)) in faults.iter().enumerate().skip(first) {
                 // a second length can undo the first
-                if (*lower, *higher) == (3, 3) {
+                if (*number, *other) == (3, 3) {
                     continue;
                 }
                 let mut case = Case::three();
                 later(&mut case);
                 earlier(&mut case);
                 let faults = format!("faults {first} and {second}");
-                refuses(&entry, case, *lower, &faults);
+                refuses(&entry, case, *number, &faults);
             }
         }
     }
 }
 
 #[test]
-fn all_slices_may_be_empty() {
-    let empty = || Case {
-        n: 3,
-        m: 1,
-        h: vec![],
-        x: vec![],
-        positions: vec![],
-        u: vec![],
-        v: vec![],
-        r: vec![],
-        s: vec![],
-        alpha: vec![],
-        q: vec![],
-        delta: vec![],
-        masks: vec![],
-        t: vec![],
-        a: vec![],
-        t_out: vec![],
-        polynomials: vec![],
-        a_out: vec![],
-        values: vec![],
-    };
+fn every_refusal_of_the_order_has_a_fault() {
     for entry in entries() {
-        refuses(&entry, empty(), 3, "all slices empty");
-        let mut case = empty();
-        case.n = 1;
-        refuses(&entry, case, 1, "all slices empty, n = 1");
-        let mut case = empty();
-        case.m = 0;
-        refuses(&entry, case, 2, "all slices empty, m = 0");
+        let mut places: Vec<usize> = entry.faults.iter().map(|(n, _)| entry.place(*n)).collect();
+        places.sort();
+        places.dedup();
+        assert!(
+            places.into_iter().eq(0..entry.order.len()),
+            "{}",
+            entry.name
+        );
+    }
+}
+
+#[test]
+fn all_slices_may_be_empty() {
+    for (n, m, number) in [(3, 1, 3), (1, 1, 1), (3, 0, 2)] {
+        for entry in entries() {
+            let empty = Case {
+                n,
+                m,
+                ..Case::default()
+            };
+            let label = format!("all slices empty, n = {n}, m = {m}");
+            refuses(&entry, empty, number, &label);
+        }
     }
 }
 
 #[test]
 fn numbers_and_words() {
-    for (index, refusal) in Refusal::ALL.iter().enumerate() {
-        assert_eq!(refusal.number() as usize, index + 1);
-    }
+    let numbers = Refusal::ALL.map(Refusal::number);
+    assert_eq!(numbers, [1, 2, 3, 4, 5, 6, 7, 8, 9, 10, 11, 12]);
     let error: &dyn std::error::Error = &Refusal::Position;
     assert_eq!(error.to_string(), "a position is 2^d or more");
     let mut texts: Vec<String> = Refusal::ALL.iter().map(Refusal::to_string).collect();
     texts.sort();
     texts.dedup();
-    assert_eq!(texts.len(), 12);
+    assert_eq!(texts.len(), Refusal::ALL.len());
     assert_eq!(Verdict::Accepted.to_string(), "accepted");
     assert_eq!(Verdict::Rejected.to_string(), "rejected");
 }

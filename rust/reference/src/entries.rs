@@ -4,8 +4,9 @@
 
 use crate::check_zero;
 use crate::constraint;
-use crate::key::{bits, elements_of_k, judge_lengths, rows, witness, Key};
+use crate::key::{bits, elements_of_k, rows, witness, Key};
 use crate::large_field::{COORDINATES, K};
+use crate::lent;
 use crate::polynomial::Polynomial;
 use crate::refusal::Refusal;
 
@@ -32,11 +33,9 @@ fn write_bits(rows: &[Vec<bool>], out: &mut [u8]) {
 
 /// Two lent elements of K after the places "slices" and "material": 3, then 6.
 fn two_elements(a: &[u16], b: &[u16], out: &[u16]) -> Result<(K, K), Refusal> {
-    judge_lengths(&[
-        (a.len(), COORDINATES),
-        (b.len(), COORDINATES),
-        (out.len(), COORDINATES),
-    ])?;
+    if [a, b, out].iter().any(|slice| slice.len() != COORDINATES) {
+        return Err(Refusal::SliceLength);
+    }
     Ok((elements_of_k(a)?[0], elements_of_k(b)?[0]))
 }
 
@@ -58,7 +57,6 @@ pub fn product(a: &[u16], b: &[u16], out: &mut [u16]) -> Result<(), Refusal> {
 
 /// The entry constraints: "takes the key, positions, u and v; writes t and all
 /// polynomials, polynomial 0 first".
-#[allow(clippy::too_many_arguments)]
 pub fn constraints(
     key: Key<'_>,
     positions: &[u8],
@@ -69,14 +67,7 @@ pub fn constraints(
 ) -> Result<(), Refusal> {
     let sizes = key.sizes()?;
     let d = sizes.d;
-    let lengths = [
-        (positions.len(), sizes.position_bytes()),
-        (u.len(), sizes.bit_bytes()),
-        (v.len(), sizes.correlation_words()),
-        (t.len(), sizes.bit_bytes()),
-        (polynomials.len(), sizes.polynomial_words()),
-    ];
-    key.judge_lengths(sizes, &lengths)?;
+    key.judge_lengths(sizes, &lent![positions, u, v, t, polynomials])?;
     let key = key.judged(sizes)?;
     let u = rows(&bits(u)?, d);
     let v = rows(&elements_of_k(v)?, d);
@@ -116,17 +107,7 @@ pub fn prove(
 ) -> Result<(), Refusal> {
     let sizes = key.sizes()?;
     let d = sizes.d;
-    let lengths = [
-        (positions.len(), sizes.position_bytes()),
-        (u.len(), sizes.bit_bytes()),
-        (v.len(), sizes.correlation_words()),
-        (r.len(), sizes.mask_words()),
-        (s.len(), sizes.mask_words()),
-        (alpha.len(), sizes.weight_words()),
-        (t.len(), sizes.bit_bytes()),
-        (a.len(), sizes.proof_words()),
-    ];
-    key.judge_lengths(sizes, &lengths)?;
+    key.judge_lengths(sizes, &lent![positions, u, v, r, s, alpha, t, a])?;
     let key = key.judged(sizes)?;
     let u = rows(&bits(u)?, d);
     let v = rows(&elements_of_k(v)?, d);
@@ -143,7 +124,6 @@ pub fn prove(
 }
 
 /// The entry values: "takes the key, t, q and Δ; writes n + m values".
-#[allow(clippy::too_many_arguments)]
 pub fn values(
     key: Key<'_>,
     t: &[u8],
@@ -153,13 +133,7 @@ pub fn values(
 ) -> Result<(), Refusal> {
     let sizes = key.sizes()?;
     let d = sizes.d;
-    let lengths = [
-        (t.len(), sizes.bit_bytes()),
-        (q.len(), sizes.correlation_words()),
-        (delta.len(), sizes.delta_words()),
-        (values.len(), sizes.weight_words()),
-    ];
-    key.judge_lengths(sizes, &lengths)?;
+    key.judge_lengths(sizes, &lent![t, q, delta, values])?;
     let key = key.judged(sizes)?;
     let t = rows(&bits(t)?, d);
     let q = rows(&elements_of_k(q)?, d);
@@ -171,7 +145,6 @@ pub fn values(
 
 /// The entry verify: "takes these with the mask numbers, α and a; answers
 /// Accepted or Rejected".
-#[allow(clippy::too_many_arguments)]
 pub fn verify(
     key: Key<'_>,
     t: &[u8],
@@ -183,15 +156,7 @@ pub fn verify(
 ) -> Result<Verdict, Refusal> {
     let sizes = key.sizes()?;
     let d = sizes.d;
-    let lengths = [
-        (t.len(), sizes.bit_bytes()),
-        (q.len(), sizes.correlation_words()),
-        (delta.len(), sizes.delta_words()),
-        (masks.len(), sizes.mask_words()),
-        (alpha.len(), sizes.weight_words()),
-        (a.len(), sizes.proof_words()),
-    ];
-    key.judge_lengths(sizes, &lengths)?;
+    key.judge_lengths(sizes, &lent![t, q, delta, masks, alpha, a])?;
     let key = key.judged(sizes)?;
     let t = rows(&bits(t)?, d);
     let q = rows(&elements_of_k(q)?, d);

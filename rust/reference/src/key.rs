@@ -80,6 +80,33 @@ impl Sizes {
     pub fn proof_words(self) -> usize {
         COORDINATES * self.d
     }
+
+    /// The stated length of the slice with this name, in words or bytes.
+    #[inline]
+    pub fn length_of(self, slice: &str) -> usize {
+        match slice {
+            "h" => self.h_words(),
+            "x" => self.x_words(),
+            "positions" => self.position_bytes(),
+            "u" | "t" => self.bit_bytes(),
+            "v" | "q" => self.correlation_words(),
+            "r" | "s" | "masks" => self.mask_words(),
+            "delta" => self.delta_words(),
+            "alpha" | "values" => self.weight_words(),
+            "polynomials" => self.polynomial_words(),
+            "a" => self.proof_words(),
+            _ => unreachable!("no entry takes a slice {slice}"),
+        }
+    }
+}
+
+/// Slices that are lent, each as its name and its length: a list of the
+/// variables that hold them.
+#[macro_export]
+macro_rules! lent {
+    ($($slice:ident),*) => {
+        [$((stringify!($slice), $slice.len())),*]
+    };
 }
 
 /// The number of binary digits of a number above 0, counted by halving:
@@ -126,14 +153,17 @@ impl Key<'_> {
         Sizes::judged(self.n, self.m)
     }
 
-    /// The place "slices" for the key and further slices, each with its lent
-    /// length and the stated one.
-    pub fn judge_lengths(self, sizes: Sizes, others: &[(usize, usize)]) -> Result<(), Refusal> {
-        judge_lengths(&[
-            (self.h.len(), sizes.h_words()),
-            (self.x.len(), sizes.x_words()),
-        ])?;
-        judge_lengths(others)
+    /// The place "slices": 3 "a lent slice isn't of its stated length", for the
+    /// key and further slices, each with its name and its length.
+    pub fn judge_lengths(self, sizes: Sizes, others: &[(&str, usize)]) -> Result<(), Refusal> {
+        let Key { h, x, .. } = self;
+        let key = lent![h, x];
+        let mut lent = key.iter().chain(others);
+        if lent.all(|&(slice, length)| length == sizes.length_of(slice)) {
+            Ok(())
+        } else {
+            Err(Refusal::SliceLength)
+        }
     }
 
     /// The place "key": 4 "an element of H or x is above 2047". Sizes and
@@ -158,15 +188,6 @@ pub struct WellFormed {
     pub h: Vec<Vec<F>>,
     /// The vector x.
     pub x: Vec<F>,
-}
-
-/// The place "slices": 3 "a lent slice isn't of its stated length". Each pair
-/// is a lent length and the stated one.
-pub fn judge_lengths(pairs: &[(usize, usize)]) -> Result<(), Refusal> {
-    if pairs.iter().any(|(lent, stated)| lent != stated) {
-        return Err(Refusal::SliceLength);
-    }
-    Ok(())
 }
 
 /// Words as elements of F, or 4 "an element of H or x is above 2047".

@@ -2,6 +2,7 @@
 #![allow(dead_code)]
 
 use perk::{Key, Masks, Prover, Refusal, Verdict, WORDS};
+use std::mem::take;
 
 /// What outputs hold before a call.
 pub const WORD: u16 = 0xBEEF;
@@ -26,7 +27,7 @@ pub fn ones(coordinates: &[usize]) -> Vec<u16> {
 }
 
 /// Everything that the functions of a key take and write.
-#[derive(Clone)]
+#[derive(Clone, Default)]
 pub struct Case {
     pub n: usize,
     pub m: usize,
@@ -105,16 +106,19 @@ impl Case {
         }
     }
 
-    /// n = 64 with H, x, offsets, masks and weights zero, positions 0 to 63: all
-    /// polynomials are zero, and so is the proof.
+    /// n = 64 with H(e,e) = 1 and no other entry of H, x, offsets, masks and
+    /// weights zero, positions 0 to 63: all polynomials are zero, and so is the
+    /// proof.
     pub fn zero_64(m: usize) -> Case {
         let (n, d) = (64, 6);
+        let mut h = vec![0; m * n];
+        h.iter_mut().step_by(n + 1).for_each(|entry| *entry = 1);
         let positions: Vec<u8> = (0..64).collect();
         let digits = |position: &u8| (0..6).map(|k| position >> (5 - k) & 1).collect::<Vec<_>>();
         Case {
             n,
             m,
-            h: vec![0; m * n],
+            h,
             x: vec![0; n],
             t: positions.iter().flat_map(digits).collect(),
             positions,
@@ -134,73 +138,57 @@ impl Case {
         }
     }
 
-    pub fn constraints(&mut self) -> Result<(), Refusal> {
-        let key = Key {
+    fn key(&self) -> Key<'_> {
+        Key {
             n: self.n,
             m: self.m,
             h: &self.h,
             x: &self.x,
-        };
-        let prover = Prover {
+        }
+    }
+
+    fn prover(&self) -> Prover<'_> {
+        Prover {
             positions: &self.positions,
             u: &self.u,
             v: &self.v,
-        };
-        perk::constraints(key, prover, &mut self.t_out, &mut self.polynomials)
+        }
+    }
+
+    fn masks(&self) -> Masks<'_> {
+        Masks {
+            r: &self.r,
+            s: &self.s,
+        }
+    }
+
+    pub fn constraints(&mut self) -> Result<(), Refusal> {
+        let mut t = take(&mut self.t_out);
+        let mut polynomials = take(&mut self.polynomials);
+        let answer = perk::constraints(self.key(), self.prover(), &mut t, &mut polynomials);
+        (self.t_out, self.polynomials) = (t, polynomials);
+        answer
     }
 
     pub fn values(&mut self) -> Result<(), Refusal> {
-        let key = Key {
-            n: self.n,
-            m: self.m,
-            h: &self.h,
-            x: &self.x,
-        };
-        perk::values(key, &self.t, &self.q, &self.delta, &mut self.values)
+        let mut values = take(&mut self.values);
+        let answer = perk::values(self.key(), &self.t, &self.q, &self.delta, &mut values);
+        self.values = values;
+        answer
     }
 
     pub fn prove(&mut self) -> Result<(), Refusal> {
-        let key = Key {
-            n: self.n,
-            m: self.m,
-            h: &self.h,
-            x: &self.x,
-        };
-        let prover = Prover {
-            positions: &self.positions,
-            u: &self.u,
-            v: &self.v,
-        };
-        let masks = Masks {
-            r: &self.r,
-            s: &self.s,
-        };
-        perk::prove(
-            key,
-            prover,
-            masks,
-            &self.alpha,
-            &mut self.t_out,
-            &mut self.a_out,
-        )
+        let (mut t, mut a) = (take(&mut self.t_out), take(&mut self.a_out));
+        let (prover, masks) = (self.prover(), self.masks());
+        let answer = perk::prove(self.key(), prover, masks, &self.alpha, &mut t, &mut a);
+        (self.t_out, self.a_out) = (t, a);
+        answer
     }
 
     pub fn verify(&mut self) -> Result<Verdict, Refusal> {
-        let key = Key {
-            n: self.n,
-            m: self.m,
-            h: &self.h,
-            x: &self.x,
-        };
-        perk::verify(
-            key,
-            &self.t,
-            &self.q,
-            &self.delta,
-            &self.masks,
-            &self.alpha,
-            &self.a,
-        )
+        let (key, delta) = (self.key(), &self.delta);
+        let (masks, alpha) = (&self.masks, &self.alpha);
+        perk::verify(key, &self.t, &self.q, delta, masks, alpha, &self.a)
     }
 
     /// Whether every output holds what it held before.

@@ -5,7 +5,9 @@ use crate::fields::product_by_doubling;
 use crate::{constraints_of, large, tops, values_of};
 use reference::large_field::K;
 use reference::level::FIRST;
-use reference::samples::{Generator, Sample};
+use reference::samples::{
+    in_order, independent, independent_rows, orthogonal_row, unit_rows, Generator, Sample,
+};
 
 /// What the positions are, judged without any polynomial.
 #[derive(Clone, Copy, Debug, PartialEq, Eq)]
@@ -90,21 +92,19 @@ fn both_facts(sample: &Sample, counts: &mut Counts) {
     }
 }
 
-/// Keys of one size: solved by one order, solved by every order, and random.
+/// Keys of one size: solved by one order, by several, by every order, and
+/// random.
 fn keys(n: usize, m: usize, generator: &mut Generator) -> Vec<Sample> {
     let solved = Sample::solving(n, m, generator);
     let solved_too = Sample::solving(n, m, generator);
     let mut random = Sample::solving(n, m, generator);
-    random.h = generator.words(m * n);
+    random.h = generator.matrix(n, m);
+    let constant = Sample::solved_by_all(n, m, generator);
 
-    // Equal entries of x and rows of sum zero.
-    let mut constant = Sample::solving(n, m, generator);
-    constant.x = vec![generator.word() | 1; n];
-    for row in constant.h.chunks_mut(n) {
-        row[0] = row[1..].iter().fold(0, |sum, word| sum ^ word);
-    }
-    let mut zero_h = Sample::solving(n, m, generator);
-    zero_h.h.fill(0);
+    // Unit rows, so that each order solves whose first m entries are zero.
+    let mut unit = Sample::solving(n, m, generator);
+    unit.h = unit_rows(n, m);
+    unit.x[..m].fill(0);
     let mut zero_x = Sample::solving(n, m, generator);
     zero_x.x.fill(0);
     // Two equal entries of x: two orders solve.
@@ -112,11 +112,11 @@ fn keys(n: usize, m: usize, generator: &mut Generator) -> Vec<Sample> {
     let positions = &equal.positions;
     let (first, second) = (usize::from(positions[0]), usize::from(positions[1]));
     equal.x[first] = equal.x[second];
-    for row in equal.h.chunks_mut(n) {
-        row[0] = row[1];
-        row[2..].fill(0);
-    }
-    vec![solved, solved_too, random, constant, zero_h, zero_x, equal]
+    let entries = in_order(&equal.x, &equal.positions);
+    equal.h = independent_rows(m, || orthogonal_row(&entries, generator));
+    let keys = vec![solved, solved_too, random, constant, unit, zero_x, equal];
+    assert!(keys.iter().all(|sample| independent(&sample.h, n)));
+    keys
 }
 
 /// New u, v and Δ, some of them zero.

@@ -1,14 +1,14 @@
 //! The twelve examples of document 01, its edges, and the file of key A.
 
-use crate::{constraints_of, element, elements, large, tops, values_of, verdict_of};
+use crate::{constraints_of, element, large, tops, values_of, verdict_of};
 use reference::constraint::z;
 use reference::key::{digits, number_of_digits};
 use reference::large_field::K;
-use reference::samples::Sample;
+use reference::package::{field_of, join, package_part, tag, WrittenField};
+use reference::samples::{elements, Sample};
 use reference::small_field::F;
 use reference::{
-    check, constraints, perkcheck_line, product, read_check_file, read_package, sum, Contents,
-    Refusal, Verdict,
+    check, perkcheck_line, product, read_check_file, read_package, sum, Contents, Refusal, Verdict,
 };
 
 fn product_in_f(a: u16, b: u16) -> u16 {
@@ -81,19 +81,17 @@ fn example_08_key_a_proof() {
     assert_eq!(verdict_of(&sample, &[1, 1], &element(4)), Verdict::Rejected);
 }
 
-/// A sample with n = 3, m = 1 and these positions, one row of H being 1 0 0.
+/// The key with n = 3, other material and these positions.
 fn three(positions: &[u8]) -> Sample {
-    let mut sample = Sample::key_a();
-    sample.n = 3;
-    sample.d = 2;
-    sample.h = vec![1, 0, 0];
-    sample.x = vec![0, 1, 2];
-    sample.positions = positions.to_vec();
-    sample.u = vec![1, 0, 0, 1, 1, 1];
-    sample.v = elements(&[3, 5, 7, 11, 13, 17]);
-    sample.r = element(19);
-    sample.s = element(23);
-    sample.alpha = elements(&[29, 31, 37, 41]);
+    let mut sample = Sample {
+        positions: positions.to_vec(),
+        u: vec![1, 0, 0, 1, 1, 1],
+        v: elements(&[3, 5, 7, 11, 13, 17]),
+        r: element(19),
+        s: element(23),
+        alpha: elements(&[29, 31, 37, 41]),
+        ..Sample::three()
+    };
     sample.make_honest();
     sample
 }
@@ -129,18 +127,7 @@ fn example_12_positions_0_1_4() {
     let sample = three(&[0, 1, 4]);
     assert_eq!(sample.proof(), Err(Refusal::Position));
     assert_eq!(Refusal::Position.number(), 7);
-    let mut t = [9; 6];
-    let mut polynomials = [9; 12 * 3 * 4];
-    let answer = constraints(
-        sample.key(),
-        &sample.positions,
-        &sample.u,
-        &sample.v,
-        &mut t,
-        &mut polynomials,
-    );
-    assert_eq!(answer, Err(Refusal::Position));
-    assert_eq!((t, polynomials), ([9; 6], [9; 12 * 3 * 4]));
+    assert_eq!(sample.constraints(), Err(Refusal::Position));
 }
 
 /// The file of key A as document 01 writes it, with the zero bytes of "0..".
@@ -158,6 +145,20 @@ fn key_a_of_the_document() -> Vec<u8> {
         .collect()
 }
 
+/// The fields of that file.
+fn fields_of_key_a() -> Vec<WrittenField> {
+    let fields = Sample::key_a().fields().expect("key A is solved");
+    assert_eq!(join(&fields), key_a_of_the_document());
+    fields
+}
+
+/// The line for that file with a change of the field with this tag.
+fn line_with(tag: u8, change: impl FnOnce(&mut Vec<u8>)) -> String {
+    let mut fields = fields_of_key_a();
+    change(&mut field_of(&mut fields, tag).content);
+    perkcheck_line(&join(&fields))
+}
+
 #[test]
 fn file_of_key_a() {
     let file = key_a_of_the_document();
@@ -171,42 +172,35 @@ fn file_of_key_a() {
     assert_eq!(read_check_file(&file), Ok(contents));
     assert_eq!(check(&file), Ok((contents, Verdict::Accepted)));
     assert_eq!(perkcheck_line(&file), "serial 7 n 2 m 1 accepted\n");
-    let mut other = file.clone();
-    // The field 07 starts at byte 29; its content at byte 32.
-    assert_eq!((other[29], other[33]), (0x07, 5));
-    other[33] = 4;
-    assert_eq!(perkcheck_line(&other), "serial 7 n 2 m 1 rejected\n");
-    // The package is the file up to field 11.
-    assert_eq!(read_package(&file[..56]), Ok(contents));
+    let line = line_with(tag::A, |a| {
+        assert_eq!(a[..2], [0, 5]);
+        a[1] = 4;
+    });
+    assert_eq!(line, "serial 7 n 2 m 1 rejected\n");
+    let package = join(package_part(&fields_of_key_a()));
+    assert_eq!(package, file[..56]);
+    assert_eq!(read_package(&package), Ok(contents));
     assert_eq!(read_package(&file), Err(Refusal::BytesFollow));
-    assert_eq!(read_check_file(&file[..56]), Err(Refusal::BytesMissing));
+    assert_eq!(read_check_file(&package), Err(Refusal::BytesMissing));
 }
 
 #[test]
 fn edge_sizes() {
-    let mut bytes = key_a_of_the_document();
+    let line = |n: u8, m: u8| line_with(tag::SIZES, |sizes| *sizes = vec![n, m]);
     for n in [0, 1, 65] {
-        bytes[3] = n;
-        assert_eq!(perkcheck_line(&bytes), "refused 1\n");
+        assert_eq!(line(n, 1), "refused 1\n");
     }
     // n = 64 passes, and then the length of H is not the stated one.
-    bytes[3] = 64;
-    assert_eq!(perkcheck_line(&bytes), "refused 11\n");
-    bytes[3] = 2;
-    bytes[4] = 2;
-    assert_eq!(perkcheck_line(&bytes), "refused 2\n");
-    bytes[4] = 0;
-    assert_eq!(perkcheck_line(&bytes), "refused 2\n");
+    assert_eq!(line(64, 1), "refused 11\n");
+    assert_eq!(line(2, 2), "refused 2\n");
+    assert_eq!(line(2, 0), "refused 2\n");
 }
 
 #[test]
 fn edge_words() {
-    let mut bytes = key_a_of_the_document();
-    // The first element of H stands at byte 8.
-    bytes[8..10].copy_from_slice(&2047u16.to_be_bytes());
-    assert!(perkcheck_line(&bytes).starts_with("serial 7 "));
-    bytes[8..10].copy_from_slice(&2048u16.to_be_bytes());
-    assert_eq!(perkcheck_line(&bytes), "refused 4\n");
+    let line = |word: u16| line_with(tag::H, |h| h[..2].copy_from_slice(&word.to_be_bytes()));
+    assert!(line(2047).starts_with("serial 7 "));
+    assert_eq!(line(2048), "refused 4\n");
     let mut out = element(9);
     assert_eq!(sum(&element(2047), &element(1), &mut out), Ok(()));
     assert_eq!(out, element(2046));
@@ -260,9 +254,8 @@ fn coefficients_of_one_row() {
 
 #[test]
 fn numbers_of_the_refusals() {
-    for (index, refusal) in Refusal::ALL.iter().enumerate() {
-        assert_eq!(refusal.number() as usize, index + 1);
-    }
+    let numbers = Refusal::ALL.map(Refusal::number);
+    assert_eq!(numbers, [1, 2, 3, 4, 5, 6, 7, 8, 9, 10, 11, 12]);
 }
 
 /// The lines of `examples_run` that document 01 states.

@@ -39,8 +39,8 @@ fn stated_lines() {
     assert_eq!(line(2, Excess, &[4095, 0]), "2 excess 0");
     assert_eq!(line(2, Excess, &[0, 4096]), "2 excess 1");
     assert_eq!(line(3, One, &[]), "refused");
-    let numbers = OPERATIONS.map(|operation| operation as usize);
-    assert!(numbers.into_iter().eq(1..=OPERATIONS.len()));
+    let numbers = OPERATIONS.iter().map(|&operation| operation as usize);
+    assert!(numbers.eq(1..=OPERATIONS.len()));
 }
 
 /// The cases of an operation that have a result.
@@ -67,7 +67,7 @@ fn covered<const LEVEL: usize>() {
     } = Level::of(LEVEL);
     let cases = Cases::all();
     let of = |operation| answered(&cases, LEVEL, operation);
-    for operation in OPERATIONS {
+    for &operation in OPERATIONS {
         assert!(!of(operation).is_empty(), "{operation:?}");
     }
 

@@ -7,6 +7,8 @@ use reference::level::{Level, FIRST, SECOND};
 use reference::samples::Generator;
 use reference::small_field::Small;
 use reference::{product, sum};
+use std::fmt::Debug;
+use std::ops::{Add, Mul};
 
 /// Each of these as a test of the first and of the second level.
 macro_rules! at_both_levels {
@@ -102,25 +104,30 @@ fn product_of_f_on_all_pairs<const LEVEL: usize>() {
     }
 }
 
-fn laws_of_f<const LEVEL: usize>() {
-    let mut generator = Generator::new(1);
-    for _ in 0..20_000 {
-        let (a, b, c) = (
-            generator.small::<LEVEL>(),
-            generator.small(),
-            generator.small(),
-        );
+/// The laws of a field of characteristic two, on drawn elements.
+fn laws<T>(rounds: usize, zero: T, one: T, mut draw: impl FnMut() -> T)
+where
+    T: Copy + Debug + PartialEq + Add<Output = T> + Mul<Output = T>,
+{
+    for _ in 0..rounds {
+        let (a, b, c) = (draw(), draw(), draw());
         assert_eq!(a + b, b + a);
         assert_eq!((a + b) + c, a + (b + c));
-        assert_eq!(a + Small::ZERO, a);
-        assert_eq!(a + a, Small::ZERO);
+        assert_eq!(a + zero, a);
+        assert_eq!(a + a, zero);
         assert_eq!(a * b, b * a);
         assert_eq!((a * b) * c, a * (b * c));
         assert_eq!(a * (b + c), a * b + a * c);
-        assert_eq!(a * Small::ONE, a);
-        assert_eq!(a * Small::ZERO, Small::ZERO);
+        assert_eq!(a * one, a);
+        assert_eq!(a * zero, zero);
     }
-    assert_ne!(Small::<LEVEL>::ONE, Small::ZERO);
+    assert_ne!(one, zero);
+}
+
+fn laws_of_f<const LEVEL: usize>() {
+    let mut generator = Generator::new(1);
+    let draw = || generator.small::<LEVEL>();
+    laws(20_000, Small::ZERO, Small::ONE, draw);
 }
 
 /// Each is its own power 2^width.
@@ -149,23 +156,8 @@ fn every_nonzero_element_of_f_has_an_inverse<const LEVEL: usize>() {
 
 fn laws_of_k<const LEVEL: usize>() {
     let mut generator = Generator::new(2);
-    for _ in 0..3_000 {
-        let (a, b, c) = (
-            generator.large::<LEVEL>(),
-            generator.large(),
-            generator.large(),
-        );
-        assert_eq!(a + b, b + a);
-        assert_eq!((a + b) + c, a + (b + c));
-        assert_eq!(a + Large::ZERO, a);
-        assert_eq!(a + a, Large::ZERO);
-        assert_eq!(a * b, b * a);
-        assert_eq!((a * b) * c, a * (b * c));
-        assert_eq!(a * (b + c), a * b + a * c);
-        assert_eq!(a * Large::ONE, a);
-        assert_eq!(a * Large::ZERO, Large::ZERO);
-    }
-    assert_ne!(Large::<LEVEL>::ONE, Large::ZERO);
+    let draw = || generator.large::<LEVEL>();
+    laws(3_000, Large::ZERO, Large::ONE, draw);
 }
 
 fn f_inside_k<const LEVEL: usize>() {

@@ -2,7 +2,7 @@
 
 use crate::{constraints_of, large, values_of, verdict_of};
 use reference::large_field::{COORDINATES, K};
-use reference::samples::{Generator, Sample};
+use reference::samples::{independent, Generator, Lent, Material, Sample};
 use reference::{Refusal, Verdict};
 
 /// Sizes with every d, powers of two and their neighbours.
@@ -92,7 +92,7 @@ fn the_equation_alone_decides() {
     for (n, m) in &SIZES[..12] {
         for zero in 0..3 {
             let mut sample = Sample::solving(*n, *m, &mut generator);
-            sample.h = generator.words(n * m);
+            sample.h = generator.matrix(*n, *m);
             sample.q = generator.words(sample.q.len());
             sample.masks = generator.words(sample.masks.len());
             match zero {
@@ -136,44 +136,45 @@ fn the_equation_alone_decides() {
 /// The slices that are changed below.
 const SLICES: [&str; 8] = ["h", "x", "t", "q", "delta", "masks", "alpha", "a"];
 
+/// The material with another bit or another word in a slice that is not empty,
+/// its rows of H still independent.
+fn changed(material: &Material, slice: &str, generator: &mut Generator) -> Material {
+    loop {
+        let mut other = material.clone();
+        let mut lent = other.lent(slice);
+        let place = generator.below(lent.length());
+        let difference = match lent {
+            Lent::Bytes(_) => 1,
+            Lent::Words(_) => 1 + generator.below(2047) as u16,
+        };
+        lent.change(place, |old| old ^ difference);
+        if independent(&other.sample.h, other.sample.n) {
+            return other;
+        }
+    }
+}
+
 #[test]
 fn changed_slices_are_rejected() {
     let mut generator = Generator::new(24);
-    let mut changed = [0; SLICES.len()];
+    let mut tried = [0; SLICES.len()];
     let mut rejected = [0; SLICES.len()];
     for (n, m) in &SIZES[..12] {
-        let sample = Sample::solving(*n, *m, &mut generator);
-        let (t, a) = sample.proof().expect("the positions solve the key");
+        let mut material = Material::of(Sample::solving(*n, *m, &mut generator));
         for round in 0..12 * SLICES.len() {
             let index = round % SLICES.len();
-            let (mut sample, mut t, mut a) = (sample.clone(), t.clone(), a.clone());
-            if SLICES[index] == "t" {
-                let place = generator.below(t.len());
-                t[place] ^= 1;
-            } else {
-                let slice = match SLICES[index] {
-                    "h" => &mut sample.h,
-                    "x" => &mut sample.x,
-                    "q" => &mut sample.q,
-                    "delta" => &mut sample.delta,
-                    "masks" => &mut sample.masks,
-                    "alpha" => &mut sample.alpha,
-                    _ => &mut a,
-                };
-                if slice.is_empty() {
-                    continue;
-                }
-                let place = generator.below(slice.len());
-                slice[place] ^= 1 + generator.below(2047) as u16;
+            if material.lent(SLICES[index]).length() == 0 {
+                continue;
             }
-            changed[index] += 1;
+            let Material { sample, t, a } = changed(&material, SLICES[index], &mut generator);
+            tried[index] += 1;
             if verdict_of(&sample, &t, &a) == Verdict::Rejected {
                 rejected[index] += 1;
             }
         }
     }
     for (index, name) in SLICES.iter().enumerate() {
-        let (changed, rejected) = (changed[index], rejected[index]);
+        let (changed, rejected) = (tried[index], rejected[index]);
         assert!(changed >= 100, "{name}: {changed} changes");
         // A change of a or of a mask number changes one side alone.
         if ["masks", "a"].contains(name) {
@@ -212,6 +213,7 @@ fn a_wrong_top_in_each_polynomial_is_found() {
             .find(|&i| sample.x[usize::from(sample.positions[i])] != 0)
             .expect("x is not zero");
         sample.h[6 * e + i] ^= 1;
+        assert!(independent(&sample.h, 6));
         assert_eq!(sample.proof(), Err(Refusal::TopCoefficient));
     }
 }

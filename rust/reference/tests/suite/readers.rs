@@ -1,13 +1,16 @@
 //! The readers, the field of a package, and perkcheck's line.
 
-use reference::package::{check_file_field, join, CHECK_FILE_TAGS, PACKAGE_TAGS};
+use reference::package::{
+    check_file_field, head_start, index_of, join, package_of, package_part, tag, CHECK_FILE_TAGS,
+    HEAD, PACKAGE_TAGS,
+};
 use reference::samples::{Generator, Sample};
 use reference::vectors::Cases;
 use reference::{
     check, field, field_range, judge_check_file, judge_package, perkcheck_line, read_check_file,
     read_package, write_check_file, write_package, Contents, Refused, Verdict,
 };
-use std::collections::BTreeMap;
+use std::collections::{BTreeMap, BTreeSet};
 
 /// What a reader answers: n, m and the serial, or the number of the refusal,
 /// the number of its place and the tag of the field; 0 for no field.
@@ -18,53 +21,71 @@ type Plain = Result<(usize, usize, u32), (u32, u32, u8)>;
 fn walk(bytes: &[u8], check_file: bool) -> Plain {
     let (mut n, mut m, mut d, mut serial) = (0, 0, 0, 0);
     let mut at = 0;
-    let steps = if check_file { 10 } else { 6 };
-    for step in 0..steps {
-        let (tag, length) = match step {
-            0 => (0x01, 2),
-            1 => (0x02, 2 * m * n),
-            2 => (0x03, 2 * n),
-            3 => (0x05, 2),
-            4 => (0x06, n * d),
-            5 => (0x07, 24 * d),
-            6 => (0x11, 24 * n * d),
-            7 => (0x12, 24 * d - 24),
-            8 => (0x13, 24),
-            _ => (0x14, 24 * (n + m)),
+    let mut next = Some(tag::SIZES);
+    while let Some(stated) = next {
+        let length = match stated {
+            tag::SIZES | tag::SERIAL => 2,
+            tag::H => 2 * m * n,
+            tag::X => 2 * n,
+            tag::T => n * d,
+            tag::A => 24 * d,
+            tag::Q => 24 * n * d,
+            tag::MASKS => 24 * d - 24,
+            tag::DELTA => 24,
+            _ => 24 * (n + m),
         };
-        let head = bytes.get(at..at + 3).ok_or((9, 1, tag))?;
-        if head[0] != tag {
-            return Err((10, 2, tag));
+        let head = bytes.get(at..at + 3).ok_or((9, 1, stated))?;
+        if head[0] != stated {
+            return Err((10, 2, stated));
         }
         if usize::from(head[1]) * 256 + usize::from(head[2]) != length {
-            return Err((11, 3, tag));
+            return Err((11, 3, stated));
         }
-        let content = bytes.get(at + 3..at + 3 + length).ok_or((9, 4, tag))?;
+        let content = bytes.get(at + 3..at + 3 + length).ok_or((9, 4, stated))?;
         // A word is above 2047 when its high byte is above 7.
         let high = content.iter().step_by(2).any(|&byte| byte > 7);
-        match step {
-            0 => {
+        match stated {
+            tag::SIZES => {
                 (n, m) = (usize::from(content[0]), usize::from(content[1]));
                 if !(2..65).contains(&n) {
-                    return Err((1, 5, tag));
+                    return Err((1, 5, stated));
                 }
                 if m < 1 || m >= n {
-                    return Err((2, 5, tag));
+                    return Err((2, 5, stated));
                 }
                 d = (1..7).find(|&d| 1 << d >= n).expect("n is at most 64");
             }
-            1 | 2 if high => return Err((4, 5, tag)),
-            3 => serial = u32::from(content[0]) << 8 | u32::from(content[1]),
-            4 if content.iter().any(|&byte| byte > 1) => return Err((5, 5, tag)),
-            5.. if high => return Err((6, 5, tag)),
+            tag::H | tag::X if high => return Err((4, 5, stated)),
+            tag::H | tag::X => {}
+            tag::SERIAL => serial = u32::from(content[0]) << 8 | u32::from(content[1]),
+            tag::T if content.iter().any(|&byte| byte > 1) => return Err((5, 5, stated)),
+            tag::T => {}
+            _ if high => return Err((6, 5, stated)),
             _ => {}
         }
         at += 3 + length;
+        next = after(stated, check_file);
     }
     if at < bytes.len() {
         return Err((12, 6, 0));
     }
     Ok((n, m, serial))
+}
+
+/// The tag after another.
+fn after(stated: u8, check_file: bool) -> Option<u8> {
+    match stated {
+        tag::SIZES => Some(tag::H),
+        tag::H => Some(tag::X),
+        tag::X => Some(tag::SERIAL),
+        tag::SERIAL => Some(tag::T),
+        tag::T => Some(tag::A),
+        tag::A => check_file.then_some(tag::Q),
+        tag::Q => Some(tag::MASKS),
+        tag::MASKS => Some(tag::DELTA),
+        tag::DELTA => Some(tag::ALPHA),
+        _ => None,
+    }
 }
 
 fn plain(answer: Result<Contents, Refused>) -> Plain {
@@ -116,13 +137,17 @@ fn both_readers_agree_with_a_second_reader() {
     let mut check_answers = package_answers.clone();
     for sample in samples() {
         let fields = sample.fields().expect("the sample is solved");
-        let starts: Vec<usize> = (0..10).map(|i| join(&fields[..i]).len()).collect();
         for round in 0..6_000 {
             let check_file = round % 2 == 1;
-            let count = if check_file { 10 } else { 6 };
-            let mut bytes = join(&fields[..count]);
+            let part = if check_file {
+                &fields
+            } else {
+                package_part(&fields)
+            };
+            let starts: Vec<usize> = part.iter().map(|f| head_start(part, f.tag)).collect();
+            let mut bytes = join(part);
             for _ in 0..generator.below(4) {
-                change(&mut bytes, &starts[..count], &mut generator);
+                change(&mut bytes, &starts, &mut generator);
             }
             assert_eq!(plain(judge_package(&bytes)), walk(&bytes, false));
             assert_eq!(plain(judge_check_file(&bytes)), walk(&bytes, true));
@@ -136,8 +161,9 @@ fn both_readers_agree_with_a_second_reader() {
         }
     }
     for answers in [package_answers, check_answers] {
-        let numbers: Vec<u32> = answers.keys().copied().collect();
-        assert_eq!(numbers, [0, 1, 2, 4, 5, 6, 9, 10, 11, 12], "{answers:?}");
+        let numbers: BTreeSet<u32> = answers.keys().copied().collect();
+        let stated = BTreeSet::from([0, 1, 2, 4, 5, 6, 9, 10, 11, 12]);
+        assert_eq!(numbers, stated, "{answers:?}");
         assert!(answers.values().all(|&count| count >= 30), "{answers:?}");
     }
 }
@@ -163,11 +189,7 @@ fn every_written_file_is_read_back() {
     for sample in samples() {
         let (t, a) = sample.proof().expect("the sample is solved");
         let Sample { n, m, serial, .. } = sample;
-        let contents = Contents {
-            n,
-            m,
-            serial: u32::from(serial),
-        };
+        let contents = Contents { n, m, serial };
         let package = write_package(sample.key(), serial, &t, &a);
         assert_eq!(read_package(&package), Ok(contents));
         let file = write_check_file(
@@ -190,7 +212,7 @@ fn every_written_file_is_read_back() {
 fn fields_of_packages() {
     for sample in samples() {
         let fields = sample.fields().expect("the sample is solved");
-        let package = join(&fields[..6]);
+        let package = join(package_part(&fields));
         let mut end = 0;
         let mut found = 0;
         for tag in 0..=255 {
@@ -201,14 +223,14 @@ fn fields_of_packages() {
                 // The parts follow one another, with the heads between them.
                 assert_eq!(range.start, end + 3);
                 assert_eq!(package[end], tag);
-                assert_eq!(part, fields[found].content);
+                assert_eq!(part, fields[index_of(&fields, tag)].content);
                 end = range.end;
                 found += 1;
             } else {
                 assert_eq!(range, 0..0);
             }
         }
-        assert_eq!((found, end), (6, package.len()));
+        assert_eq!((found, end), (PACKAGE_TAGS.len(), package.len()));
     }
 }
 
@@ -216,12 +238,12 @@ fn fields_of_packages() {
 fn fields_of_refused_packages_are_empty() {
     for sample in samples() {
         let fields = sample.fields().expect("the sample is solved");
-        let package = join(&fields[..6]);
+        let package = join(package_part(&fields));
         let mut refused = vec![Vec::new(), join(&fields)];
         refused.extend((0..package.len()).map(|length| package[..length].to_vec()));
         refused.push([package.clone(), vec![0]].concat());
         let mut large = package.clone();
-        large[8] = 8;
+        large[head_start(&fields, tag::H) + HEAD] = 8;
         refused.push(large);
         for bytes in refused {
             assert!(read_package(&bytes).is_err());
@@ -238,11 +260,18 @@ fn fields_of_check_files() {
     for sample in samples() {
         let fields = sample.fields().expect("the sample is solved");
         let file = join(&fields);
-        for (tag, written) in CHECK_FILE_TAGS.iter().zip(&fields) {
-            assert_eq!(check_file_field(&file, *tag), written.content);
+        assert!(fields.iter().map(|field| field.tag).eq(CHECK_FILE_TAGS));
+        for written in &fields {
+            assert_eq!(check_file_field(&file, written.tag), written.content);
         }
-        assert_eq!(check_file_field(&file, 0x04), []);
-        assert_eq!(check_file_field(&file[..56], 0x02), []);
+        let absent = (0..=255).filter(|tag| !CHECK_FILE_TAGS.contains(tag));
+        for tag in absent {
+            assert_eq!(check_file_field(&file, tag), []);
+        }
+        let package = join(package_part(&fields));
+        assert_eq!(check_file_field(&package, tag::H), []);
+        assert_eq!(package_of(&file), package);
+        assert_eq!(package_of(&package), []);
     }
 }
 

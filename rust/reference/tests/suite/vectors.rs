@@ -3,9 +3,10 @@
 
 use crate::large;
 use reference::large_field::COORDINATES;
-use reference::perkcheck_line;
-use reference::samples::{honest_masks, honest_q, Sample};
-use reference::vectors::{all, text_name, SIZES};
+use reference::package::{tag, words, CHECK_FILE_TAGS};
+use reference::samples::{honest_masks, honest_q, independent, Sample};
+use reference::vectors::{all, text_name, Cases, SIZES};
+use reference::{judge_check_file, perkcheck_line};
 use std::collections::BTreeMap;
 use std::fs;
 use std::path::{Path, PathBuf};
@@ -74,6 +75,13 @@ fn parse(text: &str) -> BTreeMap<String, Vec<Vec<String>>> {
 struct Text(BTreeMap<String, Vec<Vec<String>>>);
 
 impl Text {
+    /// The stored file of a size.
+    fn of(n: usize, m: usize) -> Text {
+        let path = directory().join(text_name(n, m));
+        let text = fs::read_to_string(path).expect("the text file is there");
+        Text(parse(&text))
+    }
+
     fn lines(&self, name: &str) -> &[Vec<String>] {
         self.0.get(name).map_or(&[], |lines| lines)
     }
@@ -126,7 +134,7 @@ impl Text {
             delta: Text::words(&self.lines("delta")[0]),
             q: Text::words(&self.rows("q")),
             masks: Text::words(&self.rows("mask")),
-            serial: self.number("serial") as u16,
+            serial: self.number("serial") as u32,
         }
     }
 
@@ -141,12 +149,19 @@ impl Text {
     }
 }
 
+/// The file after a change: a place, the byte there and another one.
+fn changed(file: &[u8], change: &[String]) -> Vec<u8> {
+    let mut bytes = file.to_vec();
+    let place: usize = change[0].parse().expect("a place");
+    assert_eq!(format!("{:02x}", bytes[place]), change[1]);
+    bytes[place] = u8::from_str_radix(&change[2], 16).expect("a byte");
+    bytes
+}
+
 #[test]
 fn the_text_files_hold_the_answers() {
     for (n, m) in SIZES {
-        let path = directory().join(text_name(n, m));
-        let text = fs::read_to_string(path).expect("the text file is there");
-        let text = Text(parse(&text));
+        let text = Text::of(n, m);
         let sample = text.sample();
         assert_eq!((sample.n, sample.m), (n, m));
         assert_eq!(sample.u.len(), n * sample.d);
@@ -169,18 +184,19 @@ fn the_text_files_hold_the_answers() {
         assert_eq!(perkcheck_line(&tampered), line);
         assert!(line.ends_with(" rejected\n"));
 
+        // Every field but the sizes and an empty one.
         let changes = text.lines("change");
-        assert_eq!(changes.len(), if n == 2 { 8 } else { 9 });
+        let empty = usize::from(sample.masks.is_empty());
+        assert_eq!(changes.len(), CHECK_FILE_TAGS.len() - 1 - empty);
         for change in changes {
-            let mut bytes = file.clone();
-            let at: usize = change[0].parse().unwrap();
-            assert_eq!(format!("{:02x}", bytes[at]), change[1]);
-            bytes[at] = u8::from_str_radix(&change[2], 16).unwrap();
-            assert_eq!(perkcheck_line(&bytes), change[3..].join(" ") + "\n");
+            let line = change[3..].join(" ") + "\n";
+            assert_eq!(perkcheck_line(&changed(&file, change)), line);
         }
 
-        let mut wrong = sample.clone();
-        wrong.positions = Text::bytes(&text.lines("wrong_positions")[0]);
+        let wrong = Sample {
+            positions: Text::bytes(&text.lines("wrong_positions")[0]),
+            ..sample
+        };
         text.compare(&wrong, "wrong_");
         let number = text.number("wrong_prove") as u32;
         assert_eq!(
@@ -188,5 +204,51 @@ fn the_text_files_hold_the_answers() {
             Err(number)
         );
         assert_eq!(number, 8);
+    }
+}
+
+/// The content of the field with this tag, found by the heads before it.
+fn content(bytes: &[u8], tag: u8) -> Option<&[u8]> {
+    let mut rest = bytes;
+    while let [found, high, low, after @ ..] = rest {
+        let length = usize::from(u16::from_be_bytes([*high, *low]));
+        if *found == tag {
+            return after.get(..length);
+        }
+        rest = after.get(length..)?;
+    }
+    None
+}
+
+/// Whether no row of H of a file depends on the others; none when the file is
+/// refused before its key is read.
+fn independent_key(file: &[u8]) -> Option<bool> {
+    let of_key = [tag::SIZES, tag::H, tag::X].map(Some);
+    if judge_check_file(file).is_err_and(|refused| of_key.contains(&refused.tag)) {
+        return None;
+    }
+    let (sizes, h) = (content(file, tag::SIZES)?, content(file, tag::H)?);
+    Some(independent(&words(h), usize::from(sizes[0])))
+}
+
+#[test]
+fn every_key_has_independent_rows() {
+    let mut keys = 0;
+    for case in Cases::all().list() {
+        if let Some(independent) = independent_key(&case.bytes) {
+            assert!(independent, "{}", case.name);
+            keys += 1;
+        }
+    }
+    assert!(keys >= 300, "{keys} keys of cases");
+    for (n, m) in SIZES {
+        let text = Text::of(n, m);
+        let file = text.file("file");
+        assert_eq!(independent_key(&file), Some(true));
+        assert!(independent(&text.sample().h, n));
+        for change in text.lines("change") {
+            let changed = changed(&file, change);
+            assert_eq!(independent_key(&changed), Some(true), "{n} {m} {change:?}");
+        }
     }
 }

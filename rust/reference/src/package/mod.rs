@@ -1,0 +1,323 @@
+//! The package and the check file: readers, and writers for test files.
+
+mod stated;
+mod written;
+
+pub use stated::{stated_of, tag, Kind, Stated, CHECK_FILE_TAGS, PACKAGE_TAGS};
+pub use written::{
+    check_fields, field_of, head_start, index_of, join, package_fields, package_part,
+    write_check_file, write_package, WrittenField,
+};
+
+use crate::key::{bits, elements_of_f, elements_of_k, Sizes};
+use crate::refusal::Refusal;
+use stated::FIELDS;
+use std::ops::Range;
+
+/// The bytes of tag and length: "a one-byte tag, a two-byte length".
+pub const HEAD: usize = 3;
+
+/// What the readers answer: "answer n, m and the serial".
+#[derive(Clone, Copy, Debug, PartialEq, Eq)]
+pub struct Contents {
+    /// The size n.
+    pub n: usize,
+    /// The size m.
+    pub m: usize,
+    /// The serial.
+    pub serial: u32,
+}
+
+/// The places of the readers, in the order of the table.
+#[derive(Clone, Copy, Debug, PartialEq, Eq, PartialOrd, Ord, Hash)]
+pub enum Place {
+    /// P1, "head".
+    Head,
+    /// P2, "tag".
+    Tag,
+    /// P3, "length".
+    Length,
+    /// P4, "content".
+    Content,
+    /// P5, "values".
+    Values,
+    /// P6, "end".
+    End,
+}
+
+/// Where a reader refuses, and why.
+#[derive(Clone, Copy, Debug, PartialEq, Eq)]
+pub struct Refused {
+    /// The refusal.
+    pub refusal: Refusal,
+    /// The place.
+    pub place: Place,
+    /// The tag of the field that comes next there; none at the end.
+    pub tag: Option<u8>,
+}
+
+/// A piece of the bytes, before anything is judged.
+enum Piece {
+    /// A field: its tag, its length as written, and where its content stands.
+    /// The content is shorter than the length when the bytes end before.
+    Field {
+        tag: u8,
+        length: usize,
+        content: Range<usize>,
+    },
+    /// One or two bytes at the end, too few for tag and length. The first stands
+    /// where a tag does.
+    Rest { tag: u8 },
+}
+
+impl Piece {
+    /// Whether it starts with this tag.
+    fn starts_with(&self, wanted: u8) -> bool {
+        let (Piece::Field { tag, .. } | Piece::Rest { tag }) = self;
+        *tag == wanted
+    }
+}
+
+/// A number of two bytes: "highest byte first".
+fn number(high: u8, low: u8) -> u16 {
+    256 * u16::from(high) + u16::from(low)
+}
+
+/// Cuts the bytes into pieces: "Fields are a one-byte tag, a two-byte length
+/// and the content."
+fn split(bytes: &[u8]) -> Vec<Piece> {
+    let mut pieces = Vec::new();
+    let mut start = 0;
+    while start < bytes.len() {
+        let tag = bytes[start];
+        if bytes.len() - start < HEAD {
+            pieces.push(Piece::Rest { tag });
+            break;
+        }
+        let length = usize::from(number(bytes[start + 1], bytes[start + 2]));
+        let content_start = start + HEAD;
+        let content_end = bytes.len().min(content_start + length);
+        pieces.push(Piece::Field {
+            tag,
+            length,
+            content: content_start..content_end,
+        });
+        start = content_end;
+    }
+    pieces
+}
+
+/// The places P1 to P4 for the piece that stands where this field comes next;
+/// where its content stands.
+fn judge_head_and_length(
+    piece: Option<Piece>,
+    field: &Stated,
+    sizes: Sizes,
+) -> Result<Range<usize>, (Place, Refusal)> {
+    match piece {
+        // P1: "fewer than 3 bytes remain for tag and length".
+        None | Some(Piece::Rest { .. }) => Err((Place::Head, Refusal::BytesMissing)),
+        Some(Piece::Field {
+            tag,
+            length,
+            content,
+        }) => {
+            // P2: "not the tag that comes next".
+            if tag != field.tag {
+                return Err((Place::Tag, Refusal::Tag));
+            }
+            // P3: "not the length stated above".
+            if !(field.lengths)(sizes).contains(&length) {
+                return Err((Place::Length, Refusal::FieldLength));
+            }
+            // P4: "fewer bytes remain than the length".
+            if content.len() < length {
+                return Err((Place::Content, Refusal::BytesMissing));
+            }
+            Ok(content)
+        }
+    }
+}
+
+/// Content as numbers of two bytes: "All numbers of two bytes are highest
+/// byte first".
+pub fn words(content: &[u8]) -> Vec<u16> {
+    content
+        .chunks(2)
+        .map(|pair| number(pair[0], pair[1]))
+        .collect()
+}
+
+/// The serial of a field's content, highest byte first.
+fn serial(content: &[u8]) -> u32 {
+    let bytes = content.iter().map(|&byte| u32::from(byte));
+    bytes.fold(0, |number, byte| 256 * number + byte)
+}
+
+/// The place P5: 1, 2, 4, 5 or 6 "as above, for the field's content". Answers
+/// the sizes: those of the content where it has some, else those before it.
+fn judge_values(kind: Kind, content: &[u8], sizes: Sizes) -> Result<Sizes, Refusal> {
+    match kind {
+        Kind::Sizes => Sizes::judged(usize::from(content[0]), usize::from(content[1])),
+        Kind::Key => elements_of_f(&words(content)).map(|_| sizes),
+        Kind::Serial => Ok(sizes),
+        Kind::Bits => bits(content).map(|_| sizes),
+        Kind::Elements => elements_of_k(&words(content)).map(|_| sizes),
+    }
+}
+
+/// Accepted bytes.
+struct Judged<'a> {
+    bytes: &'a [u8],
+    sizes: Sizes,
+    /// Each tag, and where the content of its field stands.
+    found: Vec<(u8, Range<usize>)>,
+}
+
+impl<'a> Judged<'a> {
+    /// Judges the bytes: "the readers instead run places P1 to P5 for each
+    /// field in turn, then P6".
+    fn of(bytes: &'a [u8], fields: &[Stated]) -> Result<Judged<'a>, Refused> {
+        let at = |tag| {
+            move |(place, refusal)| Refused {
+                refusal,
+                place,
+                tag,
+            }
+        };
+        let mut pieces = split(bytes).into_iter().peekable();
+        // No length depends on the sizes before 01 tells them.
+        let mut sizes = Sizes { n: 0, m: 0, d: 0 };
+        let mut found = Vec::new();
+        for field in fields {
+            let there = |piece: &Piece| piece.starts_with(field.tag);
+            if field.optional && !pieces.peek().is_some_and(there) {
+                continue;
+            }
+            let at = at(Some(field.tag));
+            let content = judge_head_and_length(pieces.next(), field, sizes).map_err(at)?;
+            sizes = judge_values(field.kind, &bytes[content.clone()], sizes)
+                .map_err(|refusal| at((Place::Values, refusal)))?;
+            found.push((field.tag, content));
+        }
+
+        // P6: "bytes follow the last field".
+        if pieces.next().is_some() {
+            return Err(at(None)((Place::End, Refusal::BytesFollow)));
+        }
+        Ok(Judged {
+            bytes,
+            sizes,
+            found,
+        })
+    }
+
+    /// The bytes as a package.
+    fn package(bytes: &'a [u8]) -> Result<Judged<'a>, Refused> {
+        Judged::of(bytes, &FIELDS[..PACKAGE_TAGS.len()])
+    }
+
+    /// The bytes as a check file.
+    fn check_file(bytes: &'a [u8]) -> Result<Judged<'a>, Refused> {
+        Judged::of(bytes, FIELDS)
+    }
+
+    /// Where the content of the field with this tag stands; 0..0 when there is
+    /// no such field.
+    fn range(&self, tag: u8) -> Range<usize> {
+        let field = self.found.iter().find(|(found, _)| *found == tag);
+        field.map_or(0..0, |(_, content)| content.clone())
+    }
+
+    /// n, m and the serial.
+    fn contents(&self) -> Contents {
+        Contents {
+            n: self.sizes.n,
+            m: self.sizes.m,
+            serial: serial(&self.bytes[self.range(tag::SERIAL)]),
+        }
+    }
+}
+
+/// The entry read package: "answer n, m and the serial, or a refusal".
+pub fn read_package(bytes: &[u8]) -> Result<Contents, Refusal> {
+    judge_package(bytes).map_err(|refused| refused.refusal)
+}
+
+/// The entry read check file: "answer n, m and the serial, or a refusal".
+pub fn read_check_file(bytes: &[u8]) -> Result<Contents, Refusal> {
+    judge_check_file(bytes).map_err(|refused| refused.refusal)
+}
+
+/// What read package answers, with the place of a refusal.
+pub fn judge_package(bytes: &[u8]) -> Result<Contents, Refused> {
+    Judged::package(bytes).map(|judged| judged.contents())
+}
+
+/// What read check file answers, with the place of a refusal.
+pub fn judge_check_file(bytes: &[u8]) -> Result<Contents, Refused> {
+    Judged::check_file(bytes).map(|judged| judged.contents())
+}
+
+/// Where the entry field finds its answer: the place of "that field's
+/// content", and 0..0 "for a refused package or an absent tag".
+pub fn field_range(bytes: &[u8], tag: u8) -> Range<usize> {
+    Judged::package(bytes).map_or(0..0, |judged| judged.range(tag))
+}
+
+/// The entry field of a package: "the reader hands back the caller's own bytes
+/// of that field's content; for a refused package or an absent tag it hands
+/// back an empty part".
+pub fn field(bytes: &[u8], tag: u8) -> &[u8] {
+    &bytes[field_range(bytes, tag)]
+}
+
+/// The package that a check file begins with; empty when the file is refused.
+/// It is no entry of the library.
+pub fn package_of(bytes: &[u8]) -> &[u8] {
+    let end = |judged: Judged| judged.range(tag::Q).start - HEAD;
+    &bytes[..Judged::check_file(bytes).map_or(0, end)]
+}
+
+/// The content of a field of a check file, empty when the file is refused or
+/// has no such tag. It is no entry of the library; `check` reads by it.
+pub fn check_file_field(bytes: &[u8], tag: u8) -> &[u8] {
+    &bytes[Judged::check_file(bytes).map_or(0..0, |judged| judged.range(tag))]
+}
+
+#[cfg(test)]
+mod tests {
+    use super::stated::stated;
+    use super::*;
+
+    /// Three fields of one byte, the second of which may be absent.
+    fn answer(bytes: &[u8]) -> Result<Vec<u8>, (Refusal, Option<u8>)> {
+        let field = |tag| stated(tag, "", Kind::Serial, |_| vec![1]);
+        let mut fields = [1, 2, 3].map(field);
+        fields[1].optional = true;
+        match Judged::of(bytes, &fields) {
+            Ok(judged) => Ok(judged.found.into_iter().map(|(tag, _)| tag).collect()),
+            Err(refused) => Err((refused.refusal, refused.tag)),
+        }
+    }
+
+    #[test]
+    fn a_field_that_may_be_absent() {
+        let bytes = |tags: &[u8]| -> Vec<u8> {
+            let fields = tags.iter().flat_map(|&tag| [tag, 0, 1, 9]);
+            fields.collect()
+        };
+        let of = |tags: &[u8]| answer(&bytes(tags));
+        assert_eq!(of(&[1, 2, 3]), Ok(vec![1, 2, 3]));
+        assert_eq!(of(&[1, 3]), Ok(vec![1, 3]));
+        assert_eq!(of(&[1, 2, 2, 3]), Err((Refusal::Tag, Some(3))));
+        assert_eq!(of(&[1, 3, 2]), Err((Refusal::BytesFollow, None)));
+        assert_eq!(of(&[1]), Err((Refusal::BytesMissing, Some(3))));
+        assert_eq!(of(&[1, 2]), Err((Refusal::BytesMissing, Some(3))));
+        // A byte where its tag stands, and a fault in it.
+        let with = |rest: &[u8]| answer(&[&bytes(&[1])[..], rest].concat());
+        assert_eq!(with(&[2]), Err((Refusal::BytesMissing, Some(2))));
+        assert_eq!(with(&[3]), Err((Refusal::BytesMissing, Some(3))));
+        assert_eq!(with(&[2, 0, 2]), Err((Refusal::FieldLength, Some(2))));
+    }
+}

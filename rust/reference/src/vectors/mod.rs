@@ -1,0 +1,61 @@
+//! The files of `vectors/`: their forms are described in `docs/vectors.md`.
+//! All of them come from fixed seeds, so a second run gives the same bytes.
+
+mod cases;
+mod faults;
+mod fields;
+mod text;
+
+pub use cases::{Case, Cases};
+
+use crate::examples;
+use crate::field_cases;
+use crate::samples::{Generator, Sample};
+
+/// A file: its path below `vectors/`, with `/` between names, and its bytes.
+pub type File = (String, Vec<u8>);
+
+/// The sizes n and m of the text files.
+pub const SIZES: [(usize, usize); 7] =
+    [(2, 1), (3, 1), (5, 2), (8, 3), (17, 8), (33, 16), (64, 27)];
+
+/// All files of `vectors/`.
+pub fn all() -> Vec<File> {
+    let mut files = vec![
+        ("key_a.check".to_string(), key_a_file()),
+        ("examples_run.txt".to_string(), text_of_examples()),
+    ];
+    for (n, m) in SIZES {
+        files.push((text_name(n, m), text::text(&sample(n, m)).into_bytes()));
+    }
+    files.extend(Cases::all().files());
+    let cases = field_cases::Cases::all();
+    files.push(("field_cases/stdin".to_string(), cases.stdin()));
+    files.push(("field_cases/stdout".to_string(), cases.stdout()));
+    files
+}
+
+/// The check file of key A.
+pub fn key_a_file() -> Vec<u8> {
+    Sample::key_a().check_file().expect("key A is solved")
+}
+
+/// What the program `examples_run` prints.
+fn text_of_examples() -> Vec<u8> {
+    examples::text().into_bytes()
+}
+
+/// The name of the text file of a size.
+pub fn text_name(n: usize, m: usize) -> String {
+    format!("n{n:02}_m{m:02}.txt")
+}
+
+/// The generator for a size: each size has a seed of its own.
+fn generator(n: usize, m: usize) -> Generator {
+    Generator::new((1000 * n + m) as u64)
+}
+
+/// The solving sample of a size.
+fn sample(n: usize, m: usize) -> Sample {
+    Sample::solving(n, m, &mut generator(n, m))
+}

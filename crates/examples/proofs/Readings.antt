@@ -1,4 +1,4 @@
--- d and digits are as document 01 says.
+-- d and digits are as the specification says.
 use mathlib.Core.Path.{_≡_, refl, ap}
 use Prim.Native.Nat.{ℕ, suc, _-_, _*_, _^_, _≤_, _<_}
 use native.Mathlib.Decide.{decLt}

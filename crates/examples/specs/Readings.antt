@@ -1,4 +1,4 @@
--- What document 01 says of d and of digits, besides their definitions.
+-- What the specification says of d and of digits, besides their definitions.
 use mathlib.Core.Path.{_≡_}
 use mathlib.Core.List.{[], _∷_}
 use Prim.Native.Nat.{ℕ, _-_, _^_, _≤_, _<_}

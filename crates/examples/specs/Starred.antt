@@ -1,4 +1,4 @@
--- The starred examples of document 01: what the definitions give, beside the result that the document states.
+-- The starred examples of the specification: what the definitions give, beside the result that it states.
 use mathlib.Core.List.{List, [], _∷_, _++_}
 use Prim.Native.Nat.{ℕ, suc, _+_, _*_}
 use lib.ListN.{set, replicate}

@@ -1,4 +1,4 @@
-// The starred examples of document 01 as statements about the definitions, and callers that rely on the contracts of the
+// The starred examples of the specification as statements about the definitions, and callers that rely on the contracts of the
 // entries alone.
 ghost use mathlib.Core.Path.{_≡_};
 ghost use Prim.Native.Nat.{ℕ, _+_, _<_};

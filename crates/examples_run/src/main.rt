@@ -1,4 +1,4 @@
-// Prints what the entries answer and write for the examples of document 01 and for its edges, a line each.
+// Prints what the entries answer and write for the examples of the specification and for its edges, a line each.
 // An element of K is printed as its coordinate 0, then each other coordinate c that is not zero as +cY^i.
 ghost use Prim.Native.Nat.{_*_, _<_};
 ghost use lib.ListN.{length};

@@ -1,4 +1,4 @@
-// The fields F and K of document 01.
+// The fields F and K of the specification.
 ghost use mathlib.Core.Path.{_≡_};
 ghost use Prim.Native.Nat.{_+_, _≤_, _<_};
 ghost use lib.Dec.{eqb};

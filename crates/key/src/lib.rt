@@ -1,4 +1,4 @@
-// The key of document 01: its sizes and d, and the refusals that concern it.
+// The key of the specification: its sizes and d, and the refusals that concern it.
 ghost use mathlib.Core.Path.{_≡_};
 ghost use Prim.Native.Nat.{_+_, _≤_, _<_};
 ghost use lib.Dec.{eqb};

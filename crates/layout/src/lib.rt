@@ -1,4 +1,4 @@
-// The fields of packages and check files of document 01: their rows, the tests of each, and where a content stands.
+// The fields of packages and check files of the specification: their rows, the tests of each, and where a content stands.
 ghost use mathlib.Core.Path.{_≡_};
 ghost use Prim.Native.Nat.{_+_, _≤_, _<_};
 ghost use lib.ListN.{length, take, getD};

@@ -1,4 +1,4 @@
--- Edges of document 01 on the check file of key A, of the definitions, as one statement over a list.
+-- Edges of the specification on the check file of key A, of the definitions, as one statement over a list.
 use mathlib.Core.Path.{_≡_, refl}
 use mathlib.Core.List.{List, [], _∷_, _++_, map}
 use Prim.Native.Nat.{ℕ}

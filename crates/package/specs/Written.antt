@@ -78,7 +78,7 @@ checkFields c =
 abbrev pub Within : Level → ℕ → List ℕ → Type 0
 Within l n s = (length s ≡ n) × (within l s ≡ true)
 
--- fields within the limits: the sizes, the lengths and the values that document 01 states
+-- fields within the limits: the sizes, the lengths and the values that the specification states
 pub record Valid (l : Level) (p : Package) : Type 0 where
   pub sized : Sized l (p .key)
   pub h : Within l (lengths l (p .key) .matrix) (p .h)

@@ -1,4 +1,4 @@
-// Packages and check files of document 01: the readers, and the field of a package.
+// Packages and check files of the specification: the readers, and the field of a package.
 ghost use mathlib.Core.Path.{_≡_};
 ghost use Prim.Native.Nat.{_≤_, _<_};
 ghost use lib.ListN.{take};

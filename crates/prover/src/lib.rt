@@ -1,4 +1,4 @@
-// The entry prove: document 01, 'CheckZero', the prover's side.
+// The entry prove: the specification, 'CheckZero', the prover's side.
 ghost use mathlib.Core.Path.{_≡_};
 ghost use mathlib.Core.List.{List};
 ghost use Prim.Native.Nat.{ℕ};

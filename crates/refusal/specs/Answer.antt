@@ -1,4 +1,4 @@
--- What an entry answers, by the rows of document 01's table of refusals.
+-- What an entry answers, by the rows of the specification's table of refusals.
 use mathlib.Core.Bool.{Bool, true, false}
 use mathlib.Core.List.{List, [], _∷_}
 use Prim.Native.Nat.{ℕ}

@@ -1,4 +1,4 @@
-// The refusals of document 01, with their numbers, and the answer of an entry that writes its results.
+// The refusals of the specification, with their numbers, and the answer of an entry that writes its results.
 ghost use mathlib.Core.Path.{_≡_};
 ghost use Rattle.refusal.specs.Answer.{numberOf};
 ghost use Rattle.refusal.specs.Verdict.{verdictNumber};

@@ -1,4 +1,4 @@
--- The polynomials and values of document 01 over any ring. A polynomial is the function of its coefficients.
+-- The polynomials and values of the specification over any ring. A polynomial is the function of its coefficients.
 use mathlib.Core.Bool.{Bool, not}
 use Prim.Native.Nat.{ℕ, zero, suc, _-_, _/_, _%_, _^_}
 use Rattle.field.specs.Ring.{Ring}

@@ -1,4 +1,4 @@
-// The entry verify: document 01, 'CheckZero', the verifier's side.
+// The entry verify: the specification, 'CheckZero', the verifier's side.
 ghost use mathlib.Core.Path.{_≡_};
 ghost use lib.Dec.{eqb};
 ghost use lib.ListN.{length};

@@ -38,7 +38,7 @@
  * volatile, over a local array at least as large as the stack that is stated below.
  *
  * Linking. libperk.a is for x86-64 with the System V calling convention (Linux). Its code is position independent. It
- * needs memcpy and memset, and nothing else. Stack is stated for each function at its largest sizes, and tested.
+ * needs memcpy and memset, and nothing else. Stack is stated for each function at its largest sizes.
  */
 #ifndef PERK_H
 #define PERK_H

@@ -1,5 +1,6 @@
 /*
- * PERK permutation proof, digit form: the C interface of libperk.a.
+ * PERK permutation proof, digit form: the C interface of libperk.a. What the library computes stands in
+ * docs/specification.md, what is proved of it in docs/PROOFS.md, both in the repository of the library.
  *
  * Every function takes each slice as a pointer and then a length in elements, and is proved to read and write
  * nothing else, to end, and to answer as stated here for every content and every length of its slices.
@@ -8,36 +9,117 @@
  * for its type, and no output overlaps another slice of the call. Two inputs may be the same memory. A pointer whose
  * length is 0 is never read, and may be NULL.
  *
- * Results: 0 is done, or accepted; 255 is rejected, which is no refusal; any other number is a refusal, and then every
- * output holds what it held before:
+ * Results. PERK_DONE, which is 0, means that the outputs are written. Of perk_verify and perk_check, 0 is
+ * PERK_ACCEPTED and 255 is PERK_REJECTED; rejected is no refusal. So compare with a name:
  *
- *   1   n is below 2 or above 64
- *   2   m is 0, or at least n
- *   3   a slice is not of its stated length
- *   4   an element of H or x is above 2047
- *   5   a byte of u or t is above 1
- *   6   a coordinate of an element of K is above 2047
- *   7   a position is 2^d or more
- *   8   a top coefficient of the n + m polynomials is not zero: the positions do not solve the key
- *   9   fewer bytes remain than a field's head or its content needs
- *  10   not the tag that comes next
- *  11   not the length stated for the field
- *  12   bytes follow the last field
+ *     if (perk_verify(..) == PERK_ACCEPTED) ..       and not: if (perk_verify(..)) ..
  *
- * Refusals are tried in the order in which a function lists them; the first that applies is the result.
+ * Any other number is a refusal, 1 to 12, and then every output holds what it held before. Refusals are tried in the
+ * order in which a function lists them; the first that applies is the result.
+ *
+ * Numbers. An element of F is a number 0 to 2047 whose bit i is the coefficient of z^i, with z^11 = z^2 + 1. An element
+ * of K is PERK_ELEMENT_WORDS = 12 words, coordinate 0 first, each an element of F, with Y^12 = Y^3 + 1; several elements
+ * stand one after another. Sums are bitwise exclusive or.
  *
  * A key is n, m, H and x: n is 2 to 64, m is 1 to n - 1, H has m rows of n elements of F, row after row, and x has n
- * elements of F. d is the number of binary digits of n - 1. Bits, offsets and q have d places for each of n rows, row
- * after row, place 0 (the highest digit) first.
+ * elements of F. d = PERK_DIGITS(n) is the number of binary digits of n - 1. Bits, offsets and q have d places for each
+ * of n rows, row after row, place 0 (the highest digit) first.
  *
- * An element of K is twelve 16-bit words, coordinate 0 first, each an element of F: a number 0 to 2047 whose
- * bit i is the coefficient of z^i, with z^11 = z^2 + 1 and Y^12 = Y^3 + 1.
+ * Positions. Position i says which entry of x becomes entry i: x'(i) = x(position i). Positions solve a key when they are
+ * 0 to n - 1, each once, and H x' is zero.
+ *
+ * Threads. The library has no state: no variable outlives a call, and any number of calls may run at the same time, as
+ * long as no output of one is a slice of another. It takes no memory from the heap and calls no operating system.
+ *
+ * Secrets. Nothing is wiped: perk_constraints and perk_prove leave numbers made of positions, u, v, r and s on the stack
+ * below their caller, and in registers. A host that must not leave them there either makes the call in a thread whose
+ * stack is memory of its own (pthread_attr_setstack) and wipes this memory once the thread has ended; or calls, in the
+ * same function and directly after it, a function that is not inlined and that writes zeros, through a pointer to
+ * volatile, over a local array at least as large as the stack that is stated below.
+ *
+ * Linking. libperk.a is for x86-64 with the System V calling convention (Linux). Its code is position independent. It
+ * needs memcpy and memset, and nothing else. Stack is stated for each function at its largest sizes.
  */
 #ifndef PERK_H
 #define PERK_H
 
 #include <stddef.h>
 #include <stdint.h>
+
+#define PERK_VERSION "0.1.0"
+#define PERK_VERSION_MAJOR 0
+#define PERK_VERSION_MINOR 1
+#define PERK_VERSION_PATCH 0
+
+/* results */
+#define PERK_DONE 0
+#define PERK_ACCEPTED 0
+#define PERK_REJECTED 255
+
+/* refusals */
+#define PERK_SIZE_N 1        /* n is below 2 or above 64 */
+#define PERK_SIZE_M 2        /* m is 0, or at least n */
+#define PERK_SLICE_LENGTH 3  /* a slice, input or output, is not of its stated length */
+#define PERK_KEY_ELEMENT 4   /* an element of H or x is above 2047 */
+#define PERK_BIT 5           /* a byte of u or t is above 1 */
+#define PERK_COORDINATE 6    /* a coordinate of an element of K is above 2047 */
+#define PERK_POSITION 7      /* a position is 2^d or more */
+#define PERK_TOP 8           /* a top coefficient of the n + m polynomials is not zero: the positions do not solve the key */
+#define PERK_BYTES_MISSING 9 /* fewer bytes remain than a field's tag and length, or its content, need */
+#define PERK_TAG 10          /* not the tag that comes next */
+#define PERK_FIELD_LENGTH 11 /* not the length that the field has for these sizes */
+#define PERK_BYTES_FOLLOW 12 /* bytes follow the last field */
+
+/* d, for n from 2 to 64; a constant expression where n is one */
+#define PERK_DIGITS(n) ((n) > 32 ? 6 : (n) > 16 ? 5 : (n) > 8 ? 4 : (n) > 4 ? 3 : (n) > 2 ? 2 : 1)
+
+/* lengths of slices, for n from 2 to 64 and m from 1 to n - 1: words are uint16_t, bytes are uint8_t */
+#define PERK_ELEMENT_WORDS 12
+#define PERK_H_WORDS(n, m) ((m) * (n))
+#define PERK_X_WORDS(n) (n)
+#define PERK_POSITIONS_BYTES(n) (n)
+#define PERK_U_BYTES(n) ((n) * PERK_DIGITS(n))
+#define PERK_V_WORDS(n) (12 * (n) * PERK_DIGITS(n))
+#define PERK_R_WORDS(n) (12 * (PERK_DIGITS(n) - 1))
+#define PERK_S_WORDS(n) (12 * (PERK_DIGITS(n) - 1))
+#define PERK_ALPHA_WORDS(n, m) (12 * ((n) + (m)))
+#define PERK_T_BYTES(n) ((n) * PERK_DIGITS(n))
+#define PERK_POLYNOMIALS_WORDS(n, m) (12 * ((n) + (m)) * (PERK_DIGITS(n) + 1))
+#define PERK_A_WORDS(n) (12 * PERK_DIGITS(n))
+#define PERK_Q_WORDS(n) (12 * (n) * PERK_DIGITS(n))
+#define PERK_DELTA_WORDS 12
+#define PERK_MASKS_WORDS(n) (12 * (PERK_DIGITS(n) - 1))
+#define PERK_VALUES_WORDS(n, m) (12 * ((n) + (m)))
+
+/* lengths of files: of one with these sizes, and of the largest */
+#define PERK_PACKAGE_BYTES(n, m) (22 + 2 * (m) * (n) + 2 * (n) + (n) * PERK_DIGITS(n) + 24 * PERK_DIGITS(n))
+#define PERK_CHECK_FILE_BYTES(n, m) \
+    (PERK_PACKAGE_BYTES(n, m) + 36 + 24 * (n) * PERK_DIGITS(n) + 24 * (PERK_DIGITS(n) - 1) + 24 * ((n) + (m)))
+#define PERK_LARGEST_PACKAGE_BYTES 8742
+#define PERK_LARGEST_CHECK_FILE_BYTES 21162
+
+/* the tags of fields */
+#define PERK_TAG_SIZES 0x01
+#define PERK_TAG_H 0x02
+#define PERK_TAG_X 0x03
+#define PERK_TAG_SERIAL 0x05
+#define PERK_TAG_T 0x06
+#define PERK_TAG_A 0x07
+#define PERK_TAG_Q 0x11
+#define PERK_TAG_MASKS 0x12
+#define PERK_TAG_DELTA 0x13
+#define PERK_TAG_ALPHA 0x14
+
+/* a call whose result is not looked at is warned of, where the compiler can */
+#if defined(__cplusplus) && __cplusplus >= 201703L
+#define PERK_LOOK_AT_RESULT [[nodiscard]]
+#elif !defined(__cplusplus) && defined(__STDC_VERSION__) && __STDC_VERSION__ >= 202311L
+#define PERK_LOOK_AT_RESULT [[nodiscard]]
+#elif defined(__GNUC__) || defined(__clang__)
+#define PERK_LOOK_AT_RESULT __attribute__((warn_unused_result))
+#else
+#define PERK_LOOK_AT_RESULT
+#endif
 
 #ifdef __cplusplus
 extern "C" {
@@ -47,12 +129,14 @@ extern "C" {
  * out becomes a + b in K. Each of a, b and out has 12 words.
  * Refusals: 3 (a, b, out), 6 (a, b). Stack: under 2 KiB.
  */
+PERK_LOOK_AT_RESULT
 uint32_t perk_sum(const uint16_t *a, size_t a_len, const uint16_t *b, size_t b_len, uint16_t *out, size_t out_len);
 
 /*
  * out becomes a times b in K. Each of a, b and out has 12 words.
  * Refusals: 3 (a, b, out), 6 (a, b). Stack: under 2 KiB.
  */
+PERK_LOOK_AT_RESULT
 uint32_t perk_product(const uint16_t *a, size_t a_len, const uint16_t *b, size_t b_len, uint16_t *out, size_t out_len);
 
 /*
@@ -72,6 +156,7 @@ uint32_t perk_product(const uint16_t *a, size_t a_len, const uint16_t *b, size_t
  * No jump and no address depends on positions, u or v, other than the decision to refuse; this is tested, and not part
  * of the proof. Stack: under 20 KiB.
  */
+PERK_LOOK_AT_RESULT
 uint32_t perk_constraints(size_t n, size_t m, const uint16_t *h, size_t h_len, const uint16_t *x, size_t x_len,
                           const uint8_t *positions, size_t positions_len, const uint8_t *u, size_t u_len,
                           const uint16_t *v, size_t v_len, uint8_t *t, size_t t_len,
@@ -86,6 +171,7 @@ uint32_t perk_constraints(size_t n, size_t m, const uint16_t *h, size_t h_len, c
  *
  * Refusals: 1, 2, 3 (all six slices), 4 (h, x), 5 (t), 6 (q, delta). Stack: under 6 KiB.
  */
+PERK_LOOK_AT_RESULT
 uint32_t perk_values(size_t n, size_t m, const uint16_t *h, size_t h_len, const uint16_t *x, size_t x_len,
                      const uint8_t *t, size_t t_len, const uint16_t *q, size_t q_len,
                      const uint16_t *delta, size_t delta_len, uint16_t *values, size_t values_len);
@@ -112,6 +198,7 @@ uint32_t perk_values(size_t n, size_t m, const uint16_t *h, size_t h_len, const 
  * No jump and no address depends on positions, u, v, r or s, other than the decision to refuse; this is tested, and not
  * part of the proof. Stack: under 24 KiB.
  */
+PERK_LOOK_AT_RESULT
 uint32_t perk_prove(size_t n, size_t m, const uint16_t *h, size_t h_len, const uint16_t *x, size_t x_len,
                     const uint8_t *positions, size_t positions_len, const uint8_t *u, size_t u_len,
                     const uint16_t *v, size_t v_len, const uint16_t *r, size_t r_len, const uint16_t *s, size_t s_len,
@@ -131,42 +218,84 @@ uint32_t perk_prove(size_t n, size_t m, const uint16_t *h, size_t h_len, const u
  * weights and the correlations are the caller's, who must take the challenge only after the prover's commitment and
  * check that the correlations are consistent.
  */
+PERK_LOOK_AT_RESULT
 uint32_t perk_verify(size_t n, size_t m, const uint16_t *h, size_t h_len, const uint16_t *x, size_t x_len,
                      const uint8_t *t, size_t t_len, const uint16_t *q, size_t q_len,
                      const uint16_t *delta, size_t delta_len, const uint16_t *masks, size_t masks_len,
                      const uint16_t *alpha, size_t alpha_len, const uint16_t *a, size_t a_len);
 
 /*
- * A package is the fields 01 sizes (n, m), 02 H, 03 x, 05 serial, 06 t, 07 a, each a tag of one byte, a length of two bytes
- * and its content, numbers highest byte first; a check file is a package followed by 11 q, 12 mask numbers, 13 delta,
- * 14 alpha. The readers try for each field in turn 9 (head), 10, 11, 9 (content) and the refusal of its values (01: 1, 2;
- * 02, 03: 4; 06: 5; 07, 11 to 14: 6), and then 12. They read any number of bytes.
+ * Packages and check files are fields one after another, each a tag of one byte, a length of two bytes and its content of
+ * as many bytes; numbers of two bytes are highest byte first. An element of F takes two bytes, one of K twelve elements of F.
+ * A package has exactly the first six of these fields, in this order, and a check file all ten:
+ *
+ *   tag   content                            bytes            refusals of its values
+ *   01    n, m, one byte each                2                1, 2
+ *   02    H, row after row                   2 m n            4
+ *   03    x                                  2 n              4
+ *   05    the serial, any number             2
+ *   06    t, one byte for each bit           n d              5
+ *   07    a                                  24 d             6
+ *   11    q                                  24 n d           6
+ *   12    the mask numbers                   24 (d - 1)       6     (empty where n is 2)
+ *   13    delta                              24               6
+ *   14    alpha                              24 (n + m)       6
+ *
+ * The readers try for each field in turn 9 (fewer than 3 bytes remain), 10, 11, 9 (fewer than the length remain) and the
+ * refusals of its values, and after the last field 12. They read any number of bytes.
  *
  * n, m and the serial of a package; on a refusal the three keep their values. n, m and serial name three different numbers
  * of the caller's, none of them within bytes. Stack: under 2 KiB.
  */
+PERK_LOOK_AT_RESULT
 uint32_t perk_read_package(const uint8_t *bytes, size_t bytes_len, uint32_t *n, uint32_t *m, uint32_t *serial);
 
 /*
- * The same of a check file.
+ * The same of a check file, whose first PERK_PACKAGE_BYTES(n, m) bytes are a package. Stack: under 2 KiB.
  */
+PERK_LOOK_AT_RESULT
 uint32_t perk_read_check_file(const uint8_t *bytes, size_t bytes_len, uint32_t *n, uint32_t *m, uint32_t *serial);
 
 /*
  * Where the content of the field with a tag stands in a package: returns its length, and start is its first byte's place
- * in bytes. 0, with start 0, for a package that perk_read_package refuses or a tag that a package does not have; no field
- * of a package is empty. No refusal is told. start names a number of the caller's, not within bytes. Stack: under 2 KiB.
+ * in bytes. 0, with start 0, for a package that perk_read_package refuses, a check file among these, or a tag that a
+ * package does not have; no field of a package is empty. No refusal is told. start names a number of the caller's, not
+ * within bytes. Stack: under 2 KiB.
  */
+PERK_LOOK_AT_RESULT
 size_t perk_field(const uint8_t *bytes, size_t bytes_len, uint8_t tag, size_t *start);
 
 /*
  * Whether a check file's proof is accepted: the refusal of perk_read_check_file where there is one, else 0 or 255 as
  * perk_verify answers on the fields; none of its refusals then applies. Stack: under 40 KiB.
  */
+PERK_LOOK_AT_RESULT
 uint32_t perk_check(const uint8_t *bytes, size_t bytes_len);
 
 #ifdef __cplusplus
 }
 #endif
+
+/*
+ * A result in words. This function is the header's and not the library's, and not proved.
+ */
+static inline const char *perk_refusal_text(uint32_t number) {
+    static const char *const texts[] = {
+        "done, or accepted",
+        "n is below 2 or above 64",
+        "m is 0, or at least n",
+        "a slice is not of its stated length",
+        "an element of H or x is above 2047",
+        "a byte of u or t is above 1",
+        "a coordinate of an element of K is above 2047",
+        "a position is 2^d or more",
+        "the positions do not solve the key",
+        "the bytes end before the field does",
+        "not the tag that comes next",
+        "not the length of this field",
+        "bytes follow the last field"};
+    if (number < sizeof texts / sizeof texts[0]) return texts[number];
+    return number == PERK_REJECTED ? "rejected" : "no result of this library";
+}
 
 #endif

@@ -1,0 +1,72 @@
+/*
+ * For card makers: proves key A of docs/specification.md with the positions given, and writes the package to standard output.
+ * A card that cannot prove says what was wrong.
+ *
+ *   gcc -I../../include make_proof.c ../../target/staticlib/libperk.a -o make_proof
+ *   ./make_proof 0 1 > key_a.package         ./make_proof 1 0        (refused 8: the positions do not solve the key)
+ */
+#include <stdio.h>
+#include <stdlib.h>
+#include "perk.h"
+
+enum { N = 2, M = 1, SERIAL = 7 };
+
+static uint8_t package[PERK_PACKAGE_BYTES(N, M)];
+static size_t length;
+
+static void put_byte(unsigned byte) { package[length++] = (uint8_t)byte; }
+
+static void put_word(unsigned word) {
+    put_byte(word >> 8);
+    put_byte(word & 255);
+}
+
+static void put_words(unsigned tag, const uint16_t *words, size_t count) {
+    put_byte(tag);
+    put_word((unsigned)(2 * count));
+    for (size_t i = 0; i < count; i++) put_word(words[i]);
+}
+
+static void put_bytes(unsigned tag, const uint8_t *bytes, size_t count) {
+    put_byte(tag);
+    put_word((unsigned)count);
+    for (size_t i = 0; i < count; i++) put_byte(bytes[i]);
+}
+
+int main(int argc, char **argv) {
+    /* the key: H and x */
+    const uint16_t h[PERK_H_WORDS(N, M)] = {2, 1}, x[PERK_X_WORDS(N)] = {1, 2};
+    /* the card's secrets: the positions, and its side (u, v) of the correlations; d is 1, so there are no masks */
+    uint8_t positions[PERK_POSITIONS_BYTES(N)];
+    const uint8_t u[PERK_U_BYTES(N)] = {1, 0};
+    const uint16_t v[PERK_V_WORDS(N)] = {[0] = 1, [12] = 4};
+    /* the weights, which the card's host takes after the commitment to the correlations */
+    const uint16_t alpha[PERK_ALPHA_WORDS(N, M)] = {[0] = 1, [12] = 2, [24] = 1};
+
+    if (argc != 1 + N) {
+        fprintf(stderr, "usage: make_proof POSITION POSITION\n");
+        return 2;
+    }
+    for (int i = 0; i < N; i++) {
+        unsigned long position = strtoul(argv[1 + i], NULL, 10);
+        positions[i] = position < 255 ? (uint8_t)position : 255;
+    }
+
+    uint8_t t[PERK_T_BYTES(N)];
+    uint16_t a[PERK_A_WORDS(N)];
+    uint32_t result = perk_prove(N, M, h, PERK_H_WORDS(N, M), x, PERK_X_WORDS(N), positions, PERK_POSITIONS_BYTES(N), u, PERK_U_BYTES(N),
+                                 v, PERK_V_WORDS(N), NULL, PERK_R_WORDS(N), NULL, PERK_S_WORDS(N), alpha, PERK_ALPHA_WORDS(N, M),
+                                 t, PERK_T_BYTES(N), a, PERK_A_WORDS(N));
+    if (result != PERK_DONE) {
+        fprintf(stderr, "refused %u: %s\n", (unsigned)result, perk_refusal_text(result));
+        return 1;
+    }
+
+    put_bytes(PERK_TAG_SIZES, (const uint8_t[2]){N, M}, 2);
+    put_words(PERK_TAG_H, h, PERK_H_WORDS(N, M));
+    put_words(PERK_TAG_X, x, PERK_X_WORDS(N));
+    put_words(PERK_TAG_SERIAL, (const uint16_t[1]){SERIAL}, 1);
+    put_bytes(PERK_TAG_T, t, PERK_T_BYTES(N));
+    put_words(PERK_TAG_A, a, PERK_A_WORDS(N));
+    return fwrite(package, 1, length, stdout) == length && fflush(stdout) == 0 ? 0 : 1;
+}

@@ -15,12 +15,13 @@ enum { N = 64, M = 63, D = 6, W = 12, SIZE = 1 << 20, PAINT = 0xA5 };
 static uint16_t h[M * N], x[N], v[W * N * D], r[W * (D - 1)], s[W * (D - 1)], alpha[W * (N + M)], a[W * D], q[W * N * D];
 static uint16_t delta[W], masks[W * (D - 1)], polynomials[W * (N + M) * (D + 1)], values[W * (N + M)], out[W];
 static uint8_t positions[N], u[N * D], t[N * D], file[32768];
-static size_t file_len;
+static size_t file_len, package_len;
 
 /* the key, as every function with a key takes it */
 #define KEY N, M, h, M * N, x, N
 
 static uint32_t nothing(void) { return 0; }
+static uint32_t sum(void) { return perk_sum(delta, W, delta, W, out, W); }
 static uint32_t product(void) { return perk_product(delta, W, delta, W, out, W); }
 static uint32_t constraints(void) {
     return perk_constraints(KEY, positions, N, u, N * D, v, W * N * D, t, N * D, polynomials, W * (N + M) * (D + 1));
@@ -34,13 +35,17 @@ static uint32_t prove(void) {
 static uint32_t verify(void) {
     return perk_verify(KEY, t, N * D, q, W * N * D, delta, W, masks, W * (D - 1), alpha, W * (N + M), a, W * D);
 }
+static uint32_t read_package(void) {
+    uint32_t n, m, serial;
+    return perk_read_package(file, package_len, &n, &m, &serial);
+}
 static uint32_t read_check_file(void) {
     uint32_t n, m, serial;
     return perk_read_check_file(file, file_len, &n, &m, &serial);
 }
 static uint32_t field(void) {
     size_t start;
-    return (uint32_t)perk_field(file, file_len, 7, &start);
+    return perk_field(file, package_len, 7, &start) == 0;
 }
 static uint32_t check(void) { return perk_check(file, file_len); }
 
@@ -74,14 +79,23 @@ int main(int argc, char **argv) {
         const char *name;
         uint32_t (*call)(void);
         size_t most;
-    } calls[] = {{"perk_product", product, 2048},        {"perk_constraints", constraints, 20 * 1024},
-                 {"perk_values", value, 6 * 1024},       {"perk_prove", prove, 24 * 1024},
-                 {"perk_verify", verify, 12 * 1024},     {"perk_read_check_file", read_check_file, 2048},
-                 {"perk_field", field, 2048},            {"perk_check", check, 40 * 1024}};
+    } calls[] = {{"perk_sum", sum, 2048},
+                 {"perk_product", product, 2048},
+                 {"perk_constraints", constraints, 20 * 1024},
+                 {"perk_values", value, 6 * 1024},
+                 {"perk_prove", prove, 24 * 1024},
+                 {"perk_verify", verify, 12 * 1024},
+                 {"perk_read_package", read_package, 2048},
+                 {"perk_read_check_file", read_check_file, 2048},
+                 {"perk_field", field, 2048},
+                 {"perk_check", check, 40 * 1024}};
     FILE *input = argc == 2 ? fopen(argv[1], "rb") : NULL;
     if (input == NULL) return 2;
     file_len = fread(file, 1, sizeof file, input);
     fclose(input);
+    /* the package ends where the field with the tag of q starts */
+    while (package_len + 3 < file_len && file[package_len] != PERK_TAG_Q)
+        package_len += 3 + 256 * (size_t)file[package_len + 1] + file[package_len + 2];
     /* H has unit rows and x is zero, so that every order solves the key; the other numbers are any within the limit, and a and the masks
        are zero */
     for (int e = 0; e < M; e++) h[e * N + e] = 1;

@@ -42,9 +42,10 @@
 //!
 //! # Examples
 //!
-//! Key A of the specification, where n is 2, so d is 1 and there are no masks.
-//! `examples/whole_run.rs` of this package does the same at n = 64 with masks,
-//! from a new key to a check file.
+//! Key A of the specification, where n is 2, so d is 1 and there are no masks;
+//! in all four, `k` makes an element of K of one of F, as the first writes it.
+//! `examples/whole_run.rs` of this package goes from a new key at n = 64, with
+//! masks, to a check file.
 //!
 //! To make a proof:
 //!

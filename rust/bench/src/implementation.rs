@@ -133,6 +133,13 @@ pub const REFERENCE: usize = 2;
 /// The place of the other build of the library, where there is one.
 pub const OTHER: usize = 3;
 
+/// What the other build is, as `PERK_OTHER_NAME` says it.
+pub fn other_name() -> Option<String> {
+    std::env::var("PERK_OTHER_NAME")
+        .ok()
+        .filter(|name| !name.is_empty())
+}
+
 /// Material of a sample, with t and a of its proof, which the reference would
 /// take long to make.
 pub fn material(sample: Sample) -> Material {

@@ -11,6 +11,9 @@
 //! callgrind wrote to the directory COUNTS, and draws the picture. The exit
 //! status is 1 when the implementations do not agree, which is tried before any
 //! time is taken, and 2 when the arguments are wrong.
+//!
+//! The environment variable `PERK_OTHER_NAME` says what the other build is; in
+//! the picture it is called that, by default "other build".
 #![deny(missing_docs)]
 #![forbid(unsafe_code)]
 

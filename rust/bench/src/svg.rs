@@ -1,24 +1,56 @@
-//! The picture: bars of the entries at one size, and lines of growth with n,
-//! both on logarithmic scales.
+//! The picture: dots for the times of the implementations, of the product and of
+//! the entries at one size, and lines of growth with n, all on logarithmic
+//! scales.
 
 use crate::cases::ONE_PRODUCT;
-use crate::implementation::{ALL, KEYED, LIBRARY, RUST};
+use crate::implementation::{other_name, ALL, KEYED, LIBRARY, REFERENCE, RUST};
 use crate::measure::Measured;
 use crate::table::growing;
 use std::fmt::Write;
 
-/// The size of the bars.
+/// The size of the entries that are shown as dots.
 const SIZES: (usize, usize) = (64, 27);
 
 /// Width and height of the picture.
 const WIDTH: f64 = 960.0;
-const HEIGHT: f64 = 420.0;
+const HEIGHT: f64 = 500.0;
+
+/// Where the dots' scales begin and end.
+const DOTS: (f64, f64) = (115.0, 500.0);
+
+/// The height of one dot's row, and the space between two entries.
+const ROW: f64 = 13.0;
+const BETWEEN: f64 = 10.0;
+
+/// The left end of the text of the lines, and the four sides of their area.
+const GROWTH: f64 = 590.0;
+const LEFT: f64 = 650.0;
+const RIGHT: f64 = 930.0;
+const TOP: f64 = 104.0;
+const BOTTOM: f64 = HEIGHT - 30.0;
 
 /// The colours of the implementations.
-const COLOURS: [&str; 4] = ["#1b5e9b", "#d9822b", "#9a9a9a", "#8fc1e3"];
+const COLOURS: [&str; 4] = ["#1b5e9b", "#d9822b", "#8a8a8a", "#2a8c5a"];
 
-/// The colours of the entries in the lines.
-const LINES: [&str; 4] = ["#1b5e9b", "#2a8c5a", "#a23b72", "#d9822b"];
+/// The colours and widths of the entries' lines: that of `values` is wide, since
+/// that of `prove` nearly covers it.
+const LINES: [(&str, f64); 4] = [
+    ("#7a5195", 2.0),
+    ("#a8d5ba", 8.0),
+    ("#c0392b", 2.0),
+    ("#1b5e9b", 2.0),
+];
+
+/// Styles of text.
+const TITLE: &str = r#"font-size="15" font-weight="bold""#;
+const GROUP: &str = r#"font-size="13" font-weight="bold""#;
+const PLAIN: &str = r#"font-size="12""#;
+const PLAIN_END: &str = r#"font-size="12" text-anchor="end""#;
+const SMALL: &str = r##"font-size="11" fill="#333333""##;
+const TIME: &str =
+    r##"font-size="11" fill="#333333" stroke="#ffffff" stroke-width="3" paint-order="stroke""##;
+const SCALE_MIDDLE: &str = r##"font-size="11" fill="#555555" text-anchor="middle""##;
+const SCALE_END: &str = r##"font-size="11" fill="#555555" text-anchor="end""##;
 
 /// A logarithmic scale from powers of ten to places in the picture.
 struct Scale {
@@ -70,6 +102,7 @@ struct Picture(String);
 impl Picture {
     /// Adds text.
     fn text(&mut self, (x, y): (f64, f64), style: &str, text: &str) {
+        let text = text.replace('&', "&amp;").replace('<', "&lt;");
         let _ = writeln!(
             self.0,
             r#"<text x="{x:.1}" y="{y:.1}" {style}>{text}</text>"#
@@ -84,136 +117,132 @@ impl Picture {
         );
     }
 
-    /// Adds a rectangle.
-    fn rectangle(&mut self, (x, y): (f64, f64), (width, height): (f64, f64), colour: &str) {
+    /// Adds a dot.
+    fn dot(&mut self, (x, y): (f64, f64), colour: &str) {
         let _ = writeln!(
             self.0,
-            r#"<rect x="{x:.1}" y="{y:.1}" width="{width:.1}" height="{height:.1}" fill="{colour}"/>"#
+            r#"<circle cx="{x:.1}" cy="{y:.1}" r="4" fill="{colour}"/>"#
         );
     }
 }
 
-/// The times in microseconds of the implementations, for the product and the
-/// entries with a key.
-fn bars(rows: &[Measured]) -> Vec<(String, Vec<Option<f64>>)> {
-    let chosen = rows.iter().filter(|row| {
-        let subject = &row.subject;
-        (subject.entry, subject.form) == ONE_PRODUCT || subject.sizes == Some(SIZES)
-    });
-    chosen
-        .map(|row| {
-            let times = (0..ALL.len()).map(|one| row.time(one).map(|time| time / 1e3));
-            (row.subject.entry.to_string(), times.collect())
-        })
-        .collect()
+/// The name of an implementation in the picture.
+fn name(one: usize) -> String {
+    match one {
+        LIBRARY => "library".to_string(),
+        RUST => "its algorithms in Rust".to_string(),
+        REFERENCE => "reference, by other methods".to_string(),
+        _ => other_name().unwrap_or("other build".to_string()),
+    }
 }
 
-/// Draws the bars.
-fn draw_bars(picture: &mut Picture, rows: &[Measured]) {
-    let bars = bars(rows);
-    let numbers: Vec<f64> = bars
+/// Draws the times of some rows as dots, from a height on; gives the height
+/// where they end.
+fn draw_group(picture: &mut Picture, start: f64, title: &str, rows: &[&Measured]) -> f64 {
+    let time = |row: &Measured, one: usize| row.time(one).map(|time| time / 1e3);
+    let numbers: Vec<f64> = rows
         .iter()
-        .flat_map(|bar| &bar.1)
-        .flatten()
-        .copied()
+        .flat_map(|row| (0..ALL.len()).filter_map(|one| time(row, one)))
         .collect();
-    let scale = Scale::of(&numbers, (110.0, 500.0));
-    let (top, bottom) = (84.0, HEIGHT - 36.0);
-    let (n, m) = SIZES;
-    let title = format!("Time of one call at n = {n}, m = {m}, logarithmic scale");
-    picture.text((20.0, 30.0), r#"font-size="16" font-weight="bold""#, &title);
-    for (index, one) in ALL.iter().enumerate() {
-        let x = 20.0 + 110.0 * index as f64;
-        picture.rectangle((x, 46.0), (12.0, 12.0), COLOURS[index]);
-        picture.text((x + 18.0, 56.0), r#"font-size="12""#, one.name);
-    }
+    let scale = Scale::of(&numbers, DOTS);
+    let top = start + 12.0;
+    let band = ROW * ALL.len() as f64 + BETWEEN;
+    let bottom = top + band * rows.len() as f64;
+    picture.text((20.0, start), GROUP, title);
     for number in scale.powers() {
         let x = scale.at(number);
-        picture.line((x, top - 8.0), (x, bottom), r##"stroke="#dddddd""##);
-        let style = r##"font-size="11" fill="#555555" text-anchor="middle""##;
-        picture.text((x, bottom + 18.0), style, &shown(number, false));
+        picture.line((x, top), (x, bottom), r##"stroke="#dddddd""##);
+        picture.text((x, bottom + 14.0), SCALE_MIDDLE, &shown(number, false));
     }
-    let band = (bottom - top) / bars.len() as f64;
-    let height = (band - 12.0) / ALL.len() as f64;
-    for (index, (entry, times)) in bars.iter().enumerate() {
-        let start = top + band * index as f64;
-        let middle = start + (band - 12.0) / 2.0 + 4.0;
-        picture.text(
-            (100.0, middle),
-            r#"font-size="12" text-anchor="end""#,
-            entry,
-        );
-        for (one, time) in times.iter().enumerate() {
-            let Some(time) = *time else { continue };
-            let y = start + height * one as f64;
-            let width = scale.at(time) - scale.places.0;
-            picture.rectangle((scale.places.0, y), (width, height - 1.0), COLOURS[one]);
-            let style = r##"font-size="10" fill="#333333""##;
-            let place = (scale.places.0 + width + 4.0, y + height / 2.0 + 3.0);
-            picture.text(place, style, &shown(time, true));
+    for (index, row) in rows.iter().enumerate() {
+        let above = top + BETWEEN / 2.0 + band * index as f64;
+        let middle = above + (band - BETWEEN) / 2.0 + 4.0;
+        if index > 0 {
+            let y = above - BETWEEN / 2.0;
+            picture.line((20.0, y), (DOTS.1, y), r##"stroke="#eeeeee""##);
+        }
+        picture.text((DOTS.0 - 12.0, middle), PLAIN_END, row.subject.entry);
+        for (one, colour) in (0..ALL.len()).zip(COLOURS) {
+            let Some(time) = time(row, one) else { continue };
+            let (x, y) = (scale.at(time), above + ROW * (one as f64 + 0.5));
+            picture.dot((x, y), colour);
+            picture.text((x + 8.0, y + 4.0), TIME, &shown(time, true));
         }
     }
+    bottom + 14.0
+}
+
+/// Draws the times of the implementations: the product apart from the entries
+/// with a key.
+fn draw_dots(picture: &mut Picture, rows: &[Measured]) {
+    let title = "Time of one call, logarithmic scales";
+    picture.text((20.0, 30.0), TITLE, title);
+    for (one, colour) in (0..ALL.len()).zip(COLOURS) {
+        let x = [24.0, 250.0][one % 2];
+        let y = [50.0, 69.0][one / 2];
+        picture.dot((x, y), colour);
+        picture.text((x + 11.0, y + 4.0), PLAIN, &name(one));
+    }
+    let of = |chosen: &dyn Fn(&Measured) -> bool| -> Vec<&Measured> {
+        rows.iter().filter(|row| chosen(row)).collect()
+    };
+    let products = of(&|row| (row.subject.entry, row.subject.form) == ONE_PRODUCT);
+    let end = draw_group(picture, 98.0, "One product in K", &products);
+    let (n, m) = SIZES;
+    let entries = of(&|row| row.subject.sizes == Some(SIZES));
+    let title = format!("Entries with a key, n = {n}, m = {m}");
+    draw_group(picture, end + 26.0, &title, &entries);
 }
 
 /// Draws the lines of growth.
 fn draw_growth(picture: &mut Picture, rows: &[Measured]) {
-    let points = |entry: &str, one: usize| -> Vec<(f64, f64)> {
+    let points = |entry: &str| -> Vec<(f64, f64)> {
         growing(rows, entry)
-            .filter_map(|row| Some((row.subject.sizes?.0 as f64, row.time(one)? / 1e3)))
+            .filter_map(|row| Some((row.subject.sizes?.0 as f64, row.time(LIBRARY)? / 1e3)))
             .collect()
     };
-    let all: Vec<(f64, f64)> = KEYED
-        .iter()
-        .flat_map(|entry| [points(entry, LIBRARY), points(entry, RUST)].concat())
-        .collect();
-    let times: Vec<f64> = all.iter().map(|point| point.1).collect();
-    let (left, right, top, bottom) = (630.0, 920.0, 84.0, HEIGHT - 36.0);
-    let scale = Scale::of(&times, (bottom, top));
-    let x = |n: f64| left + (n / 8.0).log2() / 3.0 * (right - left);
-    let title = "Growth with n, m near 0.42 n";
-    picture.text((570.0, 30.0), r#"font-size="16" font-weight="bold""#, title);
+    let all = KEYED.iter().flat_map(|entry| points(entry));
+    let times: Vec<f64> = all.map(|point| point.1).collect();
+    let scale = Scale::of(&times, (BOTTOM, TOP));
+    let x = |n: f64| LEFT + 16.0 + (n / 8.0).log2() / 3.0 * (RIGHT - LEFT - 32.0);
+    let title = "Growth of the library's times with n";
+    picture.text((GROWTH, 30.0), TITLE, title);
+    let text = "m near 0.42 n, logarithmic scales";
+    picture.text((GROWTH, 73.0), SMALL, text);
     for number in scale.powers() {
         let y = scale.at(number);
-        picture.line((left - 8.0, y), (right, y), r##"stroke="#dddddd""##);
-        let style = r##"font-size="11" fill="#555555" text-anchor="end""##;
-        picture.text((left - 12.0, y + 4.0), style, &shown(number, false));
+        picture.line((LEFT, y), (RIGHT, y), r##"stroke="#dddddd""##);
+        picture.text((LEFT - 8.0, y + 4.0), SCALE_END, &shown(number, false));
     }
     for n in [8.0, 16.0, 32.0, 64.0] {
-        picture.line((x(n), top), (x(n), bottom), r##"stroke="#eeeeee""##);
-        let style = r##"font-size="11" fill="#555555" text-anchor="middle""##;
-        picture.text((x(n), bottom + 18.0), style, &format!("n = {n}"));
+        picture.line((x(n), TOP), (x(n), BOTTOM), r##"stroke="#eeeeee""##);
+        picture.text((x(n), BOTTOM + 16.0), SCALE_MIDDLE, &format!("n = {n}"));
     }
     for (index, entry) in KEYED.iter().enumerate() {
-        let colour = LINES[index];
-        for (one, dashes) in [(RUST, r#"stroke-dasharray="3 4""#), (LIBRARY, "")] {
-            let style = format!(r#"stroke="{colour}" stroke-width="2" {dashes}"#);
-            let places: Vec<(f64, f64)> = points(entry, one)
-                .into_iter()
-                .map(|(n, time)| (x(n), scale.at(time)))
-                .collect();
-            for pair in places.windows(2) {
-                picture.line(pair[0], pair[1], &style);
-            }
+        let (colour, width) = LINES[index];
+        let style = format!(r#"stroke="{colour}" stroke-width="{width}" stroke-linecap="round""#);
+        let places: Vec<(f64, f64)> = points(entry)
+            .into_iter()
+            .map(|(n, time)| (x(n), scale.at(time)))
+            .collect();
+        for pair in places.windows(2) {
+            picture.line(pair[0], pair[1], &style);
         }
-        let left = [570.0, 676.0, 752.0, 824.0][index];
-        picture.rectangle((left, 50.0), (12.0, 4.0), colour);
-        picture.text((left + 17.0, 56.0), r#"font-size="12""#, entry);
+        for place in places {
+            picture.dot(place, colour);
+        }
+        let left = GROWTH + [2.0, 108.0, 190.0, 264.0][index];
+        picture.line((left, 50.0), (left + 12.0, 50.0), &style);
+        picture.text((left + 20.0, 54.0), PLAIN, entry);
     }
-    let style = r##"font-size="11" fill="#555555""##;
-    picture.text(
-        (570.0, 74.0),
-        style,
-        "solid: library; dashed: Rust; logarithmic scale",
-    );
 }
 
 /// The picture.
 pub fn picture(rows: &[Measured]) -> String {
     let mut picture = Picture(format!(
-        "<svg xmlns=\"http://www.w3.org/2000/svg\" viewBox=\"0 0 {WIDTH} {HEIGHT}\" width=\"{WIDTH}\" height=\"{HEIGHT}\" font-family=\"sans-serif\" fill=\"#111111\">\n"
+        "<svg xmlns=\"http://www.w3.org/2000/svg\" viewBox=\"0 0 {WIDTH} {HEIGHT}\" width=\"{WIDTH}\" height=\"{HEIGHT}\" font-family=\"sans-serif\" fill=\"#111111\">\n<rect width=\"{WIDTH}\" height=\"{HEIGHT}\" fill=\"#ffffff\"/>\n"
     ));
-    picture.rectangle((0.0, 0.0), (WIDTH, HEIGHT), "#ffffff");
-    draw_bars(&mut picture, rows);
+    draw_dots(&mut picture, rows);
     draw_growth(&mut picture, rows);
     picture.0.push_str("</svg>\n");
     picture.0

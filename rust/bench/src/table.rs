@@ -1,7 +1,7 @@
 //! The tables, as Markdown with columns of even width.
 
 use crate::cases::{ONE_PRODUCT, SIZES};
-use crate::implementation::{ALL, KEYED, LIBRARY, OTHER, REFERENCE, RUST};
+use crate::implementation::{other_name, ALL, KEYED, LIBRARY, OTHER, REFERENCE, RUST};
 use crate::measure::{Measured, LEAST, TURNS};
 
 /// The ratio of times up to which one build is not called slower than another:
@@ -96,9 +96,15 @@ pub fn entries(rows: &[Measured]) {
     println!("implementations is the median of the turns' ratios, so it need not be the ratio of the two times shown. Output buffers are not cleared");
     println!("between calls. `products` is the number of products in K that the library's algorithm needs, and `library/products` the library's time in");
     println!("units of that many independent calls of `product`.");
-    println!("`instructions` are those of one call, counted by callgrind; they repeat from run to run.\n");
-
+    println!(
+        "`instructions` are those of one call, counted by callgrind; they repeat from run to run."
+    );
     let other = ALL.len() > OTHER;
+    if let (true, Some(name)) = (other, other_name()) {
+        println!("`other` is: {name}.");
+    }
+    println!();
+
     let mut heading: Vec<String> = vec!["entry".into(), "called with".into()];
     heading.extend(ALL.iter().map(|one| format!("{} µs", one.name)));
     let mut ratios = vec![(LIBRARY, RUST), (LIBRARY, REFERENCE)];

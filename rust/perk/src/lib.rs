@@ -1,11 +1,18 @@
 //! The PERK permutation proof in its digit form: the proved library libperk.a,
-//! called with slices and enums.
+//! called with slices and enums. The specification stands in
+//! `docs/specification.md` of the repository; its letters are used here.
 //!
 //! Each function calls the C function of its name. That function is proved, for
 //! every content and every length of its slices, to read and write nothing
-//! else, to end, and to answer as stated here. What this crate adds is not
-//! proved: pointers and lengths, enums for numbers, [`digits`] and
-//! [`package_of`]. It needs no `std` and no heap.
+//! else, to end, and to answer as stated here, unless a sentence says that it is
+//! tested. What this crate adds is not proved: pointers and lengths, enums for
+//! numbers, [`digits`] and [`package_of`]. It needs no `std` and no heap; the
+//! stack that each function takes stands in `include/perk.h` of the repository.
+//!
+//! The library keeps no state, so any function may be called by several threads
+//! at once. It does not wipe the stack: after [`prove`] and [`constraints`],
+//! secrets and what was worked out of them stay there until something else is
+//! written over them.
 //!
 //! # Elements
 //!
@@ -15,36 +22,112 @@
 //! after another. Bits, offsets and the numbers q have d places for each of n
 //! rows, row after row, place 0 (the highest digit) first; [`digits`] gives d.
 //!
-//! # Refusals
+//! # Positions
+//!
+//! Position i says which entry of x becomes entry i of x': x'(i) = x(position i).
+//! Positions solve a key when they are 0 to n - 1, each once, and H times x' is
+//! zero.
+//!
+//! # Refusals and verdicts
 //!
 //! A function refuses with the first [`Refusal`] that applies, in the order in
 //! which it lists them, and then every output holds what it held before. A
 //! proof that is [`Verdict::Rejected`] is no refusal: it is `Ok`.
 //!
-//! # Example
+//! `Ok(Verdict::Accepted)` means only that the equation of [`verify`] holds. It
+//! does not by itself mean that a signature is valid: the challenge, the weights
+//! and the correlations are the caller's, who takes the weights only after the
+//! prover has committed to its correlations and t, the challenge only after it
+//! has committed to a as well, and checks that the correlations are consistent.
 //!
-//! Key A of the specification, with n = 2, so d is 1 and there are no masks:
+//! # Examples
+//!
+//! Key A of the specification, where n is 2, so d is 1 and there are no masks;
+//! in all four, `k` makes an element of K of one of F, as the first writes it.
+//! `examples/whole_run.rs` of this package goes from a new key at n = 64, with
+//! masks, to a check file.
+//!
+//! To make a proof:
 //!
 //! ```
-//! use perk::{Key, Masks, Prover, Verdict};
+//! use perk::{Key, Masks, Prover, WORDS};
 //!
 //! # fn main() -> Result<(), perk::Refusal> {
 //! // an element of F, as an element of K
 //! let k = |f: u16| [f, 0, 0, 0, 0, 0, 0, 0, 0, 0, 0, 0];
 //!
 //! let key = Key { n: 2, m: 1, h: &[2, 1], x: &[1, 2] };
-//! let alpha = [k(1), k(2), k(1)].concat();
-//!
 //! let prover = Prover { positions: &[0, 1], u: &[1, 0], v: &[k(1), k(4)].concat() };
 //! let masks = Masks { r: &[], s: &[] };
-//! let mut t = [0; 2];
-//! let mut a = [0; perk::WORDS];
+//! let alpha = [k(1), k(2), k(1)].concat();
+//! let (mut t, mut a) = ([0; 2], [0; WORDS]);
 //! perk::prove(key, prover, masks, &alpha, &mut t, &mut a)?;
 //! assert_eq!((t, a), ([1, 1], k(5)));
+//! # Ok(())
+//! # }
+//! ```
 //!
-//! let q = [k(3), k(4)].concat();
-//! let verdict = perk::verify(key, &t, &q, &k(2), &[], &alpha, &a)?;
-//! assert_eq!(verdict, Verdict::Accepted);
+//! To verify it, with the challenge 2 and q = u delta + v:
+//!
+//! ```
+//! use perk::{Key, Verdict};
+//!
+//! # fn main() -> Result<(), perk::Refusal> {
+//! # let k = |f: u16| [f, 0, 0, 0, 0, 0, 0, 0, 0, 0, 0, 0];
+//! let key = Key { n: 2, m: 1, h: &[2, 1], x: &[1, 2] };
+//! let (t, a) = ([1, 1], k(5));
+//! let (q, delta) = ([k(3), k(4)].concat(), k(2));
+//! let alpha = [k(1), k(2), k(1)].concat();
+//! match perk::verify(key, &t, &q, &delta, &[], &alpha, &a)? {
+//!     Verdict::Accepted => println!("accepted"),
+//!     Verdict::Rejected => println!("rejected"),
+//! }
+//! # assert_eq!(perk::verify(key, &t, &q, &delta, &[], &alpha, &a), Ok(Verdict::Accepted));
+//! # Ok(())
+//! # }
+//! ```
+//!
+//! To read a package:
+//!
+//! ```
+//! # fn main() -> Result<(), perk::Refusal> {
+//! let mut package = vec![1, 0, 2, 2, 1]; // 01: n = 2, m = 1
+//! package.extend([2, 0, 4, 0, 2, 0, 1]); // 02: H = (2 1)
+//! package.extend([3, 0, 4, 0, 1, 0, 2]); // 03: x = (1 2)
+//! package.extend([5, 0, 2, 0, 7]); // 05: serial 7
+//! package.extend([6, 0, 2, 1, 1]); // 06: t = 1 1
+//! package.extend([7, 0, 24, 0, 5]); // 07: a = 5, the other coordinates 0
+//! package.extend([0; 22]);
+//!
+//! let contents = perk::read_package(&package)?;
+//! assert_eq!((contents.n, contents.m, contents.serial), (2, 1, 7));
+//! assert_eq!(perk::field(&package, 0x06), [1, 1]);
+//! # Ok(())
+//! # }
+//! ```
+//!
+//! For the coefficients of the polynomials, the values, and products in K:
+//!
+//! ```
+//! use perk::{Key, Prover, WORDS};
+//!
+//! # fn main() -> Result<(), perk::Refusal> {
+//! # let k = |f: u16| [f, 0, 0, 0, 0, 0, 0, 0, 0, 0, 0, 0];
+//! let key = Key { n: 2, m: 1, h: &[2, 1], x: &[1, 2] };
+//! let prover = Prover { positions: &[0, 1], u: &[1, 0], v: &[k(1), k(4)].concat() };
+//! // three polynomials of two coefficients: 5, 5 and 10, with tops 0
+//! let (mut t, mut polynomials) = ([0; 2], [0; WORDS * 3 * 2]);
+//! perk::constraints(key, prover, &mut t, &mut polynomials)?;
+//! assert_eq!(polynomials[..], [k(5), k(0), k(5), k(0), k(10), k(0)].concat());
+//!
+//! let (q, delta) = ([k(3), k(4)].concat(), k(2));
+//! let mut values = [0; WORDS * 3];
+//! perk::values(key, &t, &q, &delta, &mut values)?;
+//! assert_eq!(values[..], [k(5), k(5), k(10)].concat());
+//!
+//! let mut product = k(0);
+//! perk::product(&k(1024), &k(2), &mut product)?;
+//! assert_eq!(product, k(5));
 //! # Ok(())
 //! # }
 //! ```
@@ -92,7 +175,7 @@ pub const fn digits(n: usize) -> usize {
     (usize::BITS - n.saturating_sub(1).leading_zeros()) as usize
 }
 
-/// A key.
+/// A key. It is taken when it is well formed, whether or not it is hard to solve.
 #[derive(Clone, Copy, Debug, PartialEq, Eq)]
 pub struct Key<'a> {
     /// The number of positions, 2 to 64.
@@ -109,8 +192,8 @@ pub struct Key<'a> {
 /// by `Debug`.
 #[derive(Clone, Copy)]
 pub struct Prover<'a> {
-    /// n bytes, each below 2^d: position i says which entry of x becomes
-    /// entry i.
+    /// n bytes, each below 2^d: position i says which entry of x becomes entry
+    /// i of x', so x'(i) = x(position i).
     pub positions: &'a [u8],
     /// The mask bits: n d bytes, each 0 or 1.
     pub u: &'a [u8],
@@ -118,12 +201,13 @@ pub struct Prover<'a> {
     pub v: &'a [u16],
 }
 
-/// The prover's masks, which are secret as well; empty where n is 2.
+/// The prover's masks, which are secret as well; empty where n is 2. Mask k is
+/// s(k) X + r(k).
 #[derive(Clone, Copy)]
 pub struct Masks<'a> {
-    /// 12 (d - 1) words.
+    /// r: 12 (d - 1) words.
     pub r: &'a [u16],
-    /// 12 (d - 1) words.
+    /// s: 12 (d - 1) words.
     pub s: &'a [u16],
 }
 
@@ -131,8 +215,8 @@ pub struct Masks<'a> {
 ///
 /// # Errors
 ///
-/// [`Length`](Refusal::Length) (`a`, `b`, `out`),
-/// [`Coordinate`](Refusal::Coordinate) (`a`, `b`).
+/// In this order: [`Refusal::SliceLength`] (all three), [`Refusal::Coordinate`]
+/// (`a`, `b`).
 pub fn sum(a: &[u16], b: &[u16], out: &mut [u16]) -> Result<(), Refusal> {
     refusal::answer(call!(perk_sum()(a, b)(out)))
 }
@@ -141,37 +225,36 @@ pub fn sum(a: &[u16], b: &[u16], out: &mut [u16]) -> Result<(), Refusal> {
 ///
 /// # Errors
 ///
-/// [`Length`](Refusal::Length) (`a`, `b`, `out`),
-/// [`Coordinate`](Refusal::Coordinate) (`a`, `b`).
+/// In this order: [`Refusal::SliceLength`] (all three), [`Refusal::Coordinate`]
+/// (`a`, `b`).
 pub fn product(a: &[u16], b: &[u16], out: &mut [u16]) -> Result<(), Refusal> {
     refusal::answer(call!(perk_product()(a, b)(out)))
 }
 
 /// Writes the masked witness and the n + m constraint polynomials of a key.
 ///
-/// - `t`: n d bytes; digit k of position i, highest first, exclusive-or u(i,k).
-/// - `polynomials`: 12 (n + m) (d + 1) words; polynomial 0 first, d + 1
+/// - `t`: n d bytes, written: digit k of position i, highest first, exclusive-or
+///   u(i,k).
+/// - `polynomials`: 12 (n + m) (d + 1) words, written: polynomial 0 first, d + 1
 ///   coefficients each, that of X^0 first.
 ///
 /// Positions from n to 2^d - 1 are taken.
 ///
-/// Proved of what is written: the top coefficients of all n + m polynomials are
-/// zero exactly when the positions are 0 to n - 1, each once, and H times x in
-/// that order is zero. And where [`values`] is given this key, this `t`, a
-/// challenge delta, and q with each q(i,k) = u(i,k) delta + v(i,k), value j is
-/// polynomial j at delta.
+/// Proved of what is written where it returns `Ok`: the top coefficients, those
+/// of X^d, of all n + m polynomials are zero exactly when the positions solve
+/// the key; and for every challenge delta, where each q(i,k) is
+/// u(i,k) delta + v(i,k), value j that [`values`] writes for this key, this `t`,
+/// q and delta is polynomial j at delta.
 ///
-/// No branch and no address is meant to depend on what the prover holds, other
-/// than the decision to refuse; this is not part of the proof. Stack: under
-/// 20 KiB.
+/// No jump and no address depends on positions, u or v, other than the decision
+/// to refuse; this is tested, not proved. The stack is not wiped.
 ///
 /// # Errors
 ///
-/// [`Size`](Refusal::Size), [`Rows`](Refusal::Rows),
-/// [`Length`](Refusal::Length) (all seven slices), [`Key`](Refusal::Key)
-/// (`h`, `x`), [`Bit`](Refusal::Bit) (`u`),
-/// [`Coordinate`](Refusal::Coordinate) (`v`),
-/// [`Position`](Refusal::Position).
+/// In this order: [`Refusal::SizeN`], [`Refusal::SizeM`],
+/// [`Refusal::SliceLength`] (all seven slices), [`Refusal::KeyElement`] (`h`,
+/// `x`), [`Refusal::Bit`] (`u`), [`Refusal::Coordinate`] (`v`),
+/// [`Refusal::Position`].
 pub fn constraints(
     key: Key<'_>,
     prover: Prover<'_>,
@@ -187,16 +270,13 @@ pub fn constraints(
 /// - `t`: the masked witness, n d bytes.
 /// - `q`: the verifier's numbers, 12 n d words.
 /// - `delta`: the challenge, 12 words.
-/// - `values`: 12 (n + m) words, written; value 0 first.
-///
-/// Stack: under 6 KiB.
+/// - `values`: 12 (n + m) words, written: value 0 first.
 ///
 /// # Errors
 ///
-/// [`Size`](Refusal::Size), [`Rows`](Refusal::Rows),
-/// [`Length`](Refusal::Length) (all six slices), [`Key`](Refusal::Key) (`h`,
-/// `x`), [`Bit`](Refusal::Bit) (`t`), [`Coordinate`](Refusal::Coordinate)
-/// (`q`, `delta`).
+/// In this order: [`Refusal::SizeN`], [`Refusal::SizeM`],
+/// [`Refusal::SliceLength`] (all six slices), [`Refusal::KeyElement`] (`h`,
+/// `x`), [`Refusal::Bit`] (`t`), [`Refusal::Coordinate`] (`q`, `delta`).
 pub fn values(
     key: Key<'_>,
     t: &[u8],
@@ -210,30 +290,29 @@ pub fn values(
 /// Writes the masked witness and the proof of a key.
 ///
 /// - `alpha`: the weights, 12 (n + m) words.
-/// - `t`: n d bytes, written as by [`constraints`].
-/// - `a`: 12 d words, written; the d coefficients below X^d, that of X^0 first,
+/// - `t`: n d bytes, written: as by [`constraints`].
+/// - `a`: 12 d words, written: the d coefficients below X^d, that of X^0 first,
 ///   of the sum of alpha(j) times polynomial j plus the sum over k below d - 1
 ///   of X^k (s(k) X + r(k)).
 ///
-/// Proved besides: past the refusals up to `Position` it is done exactly when
-/// the positions are 0 to n - 1, each once, and H times x in that order is zero,
-/// and refuses with `Top` exactly when they are not. And wherever it is done,
-/// [`verify`] accepts `t` and `a` with the same key and weights, any challenge
-/// delta, each q(i,k) = u(i,k) delta + v(i,k) and each
-/// masks(k) = s(k) delta + r(k).
+/// Proved besides: where none of the refusals before
+/// [`Refusal::TopCoefficient`] applies, it returns `Ok` exactly when the
+/// positions solve the key, and that refusal exactly when they do not. And
+/// wherever it returns `Ok`, [`verify`] accepts `t` and `a` with the same key
+/// and weights, any challenge delta, each q(i,k) = u(i,k) delta + v(i,k) and
+/// each masks(k) = s(k) delta + r(k).
 ///
-/// No branch and no address is meant to depend on what the prover holds, masks
-/// included, other than the decision to refuse; this is not part of the proof.
-/// Stack: under 24 KiB.
+/// No jump and no address depends on positions, u, v, r or s, other than the
+/// decision to refuse; this is tested, not proved. The stack is not wiped:
+/// secrets stay on it.
 ///
 /// # Errors
 ///
-/// [`Size`](Refusal::Size), [`Rows`](Refusal::Rows),
-/// [`Length`](Refusal::Length) (all ten slices), [`Key`](Refusal::Key) (`h`,
-/// `x`), [`Bit`](Refusal::Bit) (`u`), [`Coordinate`](Refusal::Coordinate)
-/// (`v`, `r`, `s`, `alpha`), [`Position`](Refusal::Position), and then
-/// [`Top`](Refusal::Top), found before anything is written, whatever the
-/// weights are.
+/// In this order: [`Refusal::SizeN`], [`Refusal::SizeM`],
+/// [`Refusal::SliceLength`] (all ten slices), [`Refusal::KeyElement`] (`h`,
+/// `x`), [`Refusal::Bit`] (`u`), [`Refusal::Coordinate`] (`v`, `r`, `s`,
+/// `alpha`), [`Refusal::Position`], and then [`Refusal::TopCoefficient`], found
+/// before anything is written, whatever the weights are.
 pub fn prove(
     key: Key<'_>,
     prover: Prover<'_>,
@@ -247,10 +326,11 @@ pub fn prove(
     refusal::answer(call!(perk_prove key (positions, u, v, r, s, alpha) (t, a)))
 }
 
-/// Whether a proof is accepted: exactly when `a` at the challenge equals the
-/// sum of alpha(j) times value j plus the sum over k below d - 1 of delta^k
-/// masks(k). Otherwise it is rejected, which is no refusal. The power 0 is one,
-/// for delta zero too.
+/// Whether a proof is accepted: where no refusal applies,
+/// [`Verdict::Accepted`] exactly when `a` at the challenge equals the sum of
+/// alpha(j) times value j plus the sum over k below d - 1 of delta^k masks(k),
+/// and [`Verdict::Rejected`] exactly when it does not. The power 0 is one, for
+/// delta zero too.
 ///
 /// - `t`: the masked witness, n d bytes.
 /// - `q`: the verifier's numbers, 12 n d words.
@@ -259,19 +339,17 @@ pub fn prove(
 /// - `alpha`: the weights, 12 (n + m) words.
 /// - `a`: the proof, 12 d words.
 ///
-/// Accepted means that this equation holds. It does not by itself mean that a
-/// signature is valid: the challenge, the weights and the correlations are the
-/// caller's, who must take the challenge only after the prover's commitment and
-/// check that the correlations are consistent.
-///
-/// Stack: under 12 KiB.
+/// Accepted means only that this equation holds. Zero weights, a zero challenge
+/// or a `t` that is no order may be accepted; choosing the weights and the
+/// challenge after the prover's commitments, and checking the correlations, is
+/// the caller's part.
 ///
 /// # Errors
 ///
-/// [`Size`](Refusal::Size), [`Rows`](Refusal::Rows),
-/// [`Length`](Refusal::Length) (all eight slices), [`Key`](Refusal::Key) (`h`,
-/// `x`), [`Bit`](Refusal::Bit) (`t`), [`Coordinate`](Refusal::Coordinate)
-/// (`q`, `delta`, `masks`, `alpha`, `a`).
+/// In this order: [`Refusal::SizeN`], [`Refusal::SizeM`],
+/// [`Refusal::SliceLength`] (all eight slices), [`Refusal::KeyElement`] (`h`,
+/// `x`), [`Refusal::Bit`] (`t`), [`Refusal::Coordinate`] (`q`, `delta`, `masks`,
+/// `alpha`, `a`).
 pub fn verify(
     key: Key<'_>,
     t: &[u8],

@@ -35,11 +35,11 @@ fn read(reader: Reader, bytes: &[u8]) -> Result<Contents, Refusal> {
     })
 }
 
-/// The sizes and the serial of a package.
+/// The sizes and the serial of a package. `bytes` may have any length.
 ///
 /// A field is a tag of one byte, a length of two bytes and the content; numbers
-/// of two bytes are highest byte first. A package has exactly these fields, in
-/// this order:
+/// of two bytes are highest byte first, and tags are hexadecimal. A package has
+/// exactly these fields, in this order:
 ///
 /// | Tag | Content | Bytes |
 /// |---|---|---|
@@ -52,13 +52,18 @@ fn read(reader: Reader, bytes: &[u8]) -> Result<Contents, Refusal> {
 ///
 /// # Errors
 ///
-/// For each field in turn: [`Short`](Refusal::Short) when fewer than 3 bytes
-/// remain, [`Tag`](Refusal::Tag), [`Field`](Refusal::Field) for another length,
-/// [`Short`](Refusal::Short) when fewer bytes remain than the length, and then
-/// for the content [`Size`](Refusal::Size) and [`Rows`](Refusal::Rows) (n, m),
-/// [`Key`](Refusal::Key) (H, x), [`Bit`](Refusal::Bit) (t) and
-/// [`Coordinate`](Refusal::Coordinate) (a). After the last field
-/// [`End`](Refusal::End).
+/// For each field in turn, in this order:
+///
+/// - [`Refusal::BytesMissing`], where fewer than 3 bytes remain for tag and
+///   length;
+/// - [`Refusal::Tag`];
+/// - [`Refusal::FieldLength`], where the length is not the one stated above;
+/// - [`Refusal::BytesMissing`], where fewer bytes remain than the length;
+/// - of the content [`Refusal::SizeN`] and [`Refusal::SizeM`] (01),
+///   [`Refusal::KeyElement`] (02, 03), [`Refusal::Bit`] (06),
+///   [`Refusal::Coordinate`] (07).
+///
+/// After the last field [`Refusal::BytesFollow`].
 pub fn read_package(bytes: &[u8]) -> Result<Contents, Refusal> {
     read(c::perk_read_package, bytes)
 }
@@ -73,13 +78,11 @@ pub fn read_package(bytes: &[u8]) -> Result<Contents, Refusal> {
 /// | 13 | delta | 24 |
 /// | 14 | alpha | 24 (n + m) |
 ///
-/// Tags are hexadecimal.
-///
 /// # Errors
 ///
 /// Those of [`read_package`] in the same order, for all ten fields in turn, with
-/// [`Coordinate`](Refusal::Coordinate) for the content of the last four. After
-/// the last field [`End`](Refusal::End).
+/// [`Refusal::Coordinate`] for the content of the last four. After the last
+/// field [`Refusal::BytesFollow`].
 pub fn read_check_file(bytes: &[u8]) -> Result<Contents, Refusal> {
     read(c::perk_read_check_file, bytes)
 }
@@ -105,7 +108,7 @@ pub fn package_of(check_file: &[u8]) -> Result<&[u8], Refusal> {
 
 /// The content of the field with this tag in a package: the caller's own bytes.
 /// It is empty for a package that [`read_package`] refuses, and for a tag that a
-/// package does not have; no field of a package is empty.
+/// package does not have; no field of a package is empty. It tells no refusal.
 ///
 /// A check file is no package; [`package_of`] finds the one that it begins with.
 pub fn field(bytes: &[u8], tag: u8) -> &[u8] {
@@ -118,11 +121,13 @@ pub fn field(bytes: &[u8], tag: u8) -> &[u8] {
 }
 
 /// Whether the proof in a check file is accepted: as [`verify`](crate::verify)
-/// decides for its key, t, q, delta, mask numbers, alpha and a.
+/// decides for its key, t, q, delta, mask numbers, alpha and a. Accepted means
+/// only that the equation of `verify` holds; the serial is not part of it.
 ///
 /// # Errors
 ///
-/// Those of [`read_check_file`], in the same order.
+/// Those of [`read_check_file`], in the same order. Where it reads the file, no
+/// refusal of `verify` applies.
 pub fn check(bytes: &[u8]) -> Result<Verdict, Refusal> {
     refusal::verdict(call!(perk_check()(bytes)()))
 }

@@ -6,56 +6,58 @@ use core::fmt;
 /// What a call was refused for. Every output then holds what it held before.
 ///
 /// Each function lists its refusals in the order in which they are tried; the
-/// first that applies is the answer.
-#[derive(Clone, Copy, Debug, PartialEq, Eq, PartialOrd, Ord, Hash)]
+/// first that applies is the answer. The numbers are those of the
+/// specification.
+#[derive(Clone, Copy, Debug, PartialEq, Eq, Hash)]
 #[repr(u8)]
 pub enum Refusal {
     /// 1: n is below 2 or above 64.
-    Size = 1,
+    SizeN = 1,
     /// 2: m is 0, or at least n.
-    Rows = 2,
-    /// 3: a slice is not of its stated length.
-    Length = 3,
+    SizeM = 2,
+    /// 3: a slice is not of its stated length. This is decided before any slice
+    /// is read, which is tested.
+    SliceLength = 3,
     /// 4: an element of H or x is above 2047.
-    Key = 4,
+    KeyElement = 4,
     /// 5: a byte of u or t is above 1.
     Bit = 5,
     /// 6: a coordinate of an element of K is above 2047.
     Coordinate = 6,
     /// 7: a position is 2^d or more.
     Position = 7,
-    /// 8: a top coefficient of the n + m polynomials is not zero: the
-    /// positions do not solve the key.
-    Top = 8,
-    /// 9: fewer bytes remain than tag and length need, or than a field's
-    /// content.
-    Short = 9,
-    /// 10: not the tag that comes next.
+    /// 8: a top coefficient of the n + m polynomials is not zero, which means
+    /// that the positions do not solve the key.
+    TopCoefficient = 8,
+    /// 9: fewer than 3 bytes remain for a field's tag and length, or fewer bytes
+    /// than its length says.
+    BytesMissing = 9,
+    /// 10: a tag is not the one that comes next.
     Tag = 10,
-    /// 11: not the length that the field has for these sizes.
-    Field = 11,
+    /// 11: a field's length is not the one stated for it.
+    FieldLength = 11,
     /// 12: bytes follow the last field.
-    End = 12,
+    BytesFollow = 12,
 }
 
 impl Refusal {
     /// All refusals, in the order of their numbers.
     pub const ALL: [Refusal; 12] = [
-        Refusal::Size,
-        Refusal::Rows,
-        Refusal::Length,
-        Refusal::Key,
+        Refusal::SizeN,
+        Refusal::SizeM,
+        Refusal::SliceLength,
+        Refusal::KeyElement,
         Refusal::Bit,
         Refusal::Coordinate,
         Refusal::Position,
-        Refusal::Top,
-        Refusal::Short,
+        Refusal::TopCoefficient,
+        Refusal::BytesMissing,
         Refusal::Tag,
-        Refusal::Field,
-        Refusal::End,
+        Refusal::FieldLength,
+        Refusal::BytesFollow,
     ];
 
-    /// Its number, as `perk.h` lists them.
+    /// Its number, 1 to 12, which the C function returns.
     pub const fn number(self) -> u32 {
         self as u32
     }
@@ -73,22 +75,24 @@ impl Refusal {
     }
 }
 
-/// What applies, in words, without the number.
+/// What was wrong, in words, without the number.
 impl fmt::Display for Refusal {
     fn fmt(&self, f: &mut fmt::Formatter<'_>) -> fmt::Result {
         f.write_str(match self {
-            Refusal::Size => "n is below 2 or above 64",
-            Refusal::Rows => "m is 0, or at least n",
-            Refusal::Length => "a slice is not of its stated length",
-            Refusal::Key => "an element of H or x is above 2047",
+            Refusal::SizeN => "n is below 2 or above 64",
+            Refusal::SizeM => "m is 0, or at least n",
+            Refusal::SliceLength => "a slice is not of its stated length",
+            Refusal::KeyElement => "an element of H or x is above 2047",
             Refusal::Bit => "a byte of u or t is above 1",
             Refusal::Coordinate => "a coordinate of an element of K is above 2047",
             Refusal::Position => "a position is 2^d or more",
-            Refusal::Top => "the positions do not solve the key",
-            Refusal::Short => "the bytes end before the field does",
-            Refusal::Tag => "not the tag that comes next",
-            Refusal::Field => "not the length of this field",
-            Refusal::End => "bytes follow the last field",
+            Refusal::TopCoefficient => {
+                "a top coefficient is not zero: the positions do not solve the key"
+            }
+            Refusal::BytesMissing => "the bytes end before a field is complete",
+            Refusal::Tag => "a tag is not the one that comes next",
+            Refusal::FieldLength => "a field's length is not the one stated for it",
+            Refusal::BytesFollow => "bytes follow the last field",
         })
     }
 }
@@ -97,12 +101,13 @@ impl Error for Refusal {}
 
 /// Whether a proof is accepted. Rejected is no refusal: a caller who only asks
 /// whether a result is `Ok` has not looked at the verdict.
-#[derive(Clone, Copy, Debug, PartialEq, Eq, PartialOrd, Ord, Hash)]
+#[derive(Clone, Copy, Debug, PartialEq, Eq, Hash)]
 #[must_use = "a rejected proof is no refusal; compare with Verdict::Accepted"]
 pub enum Verdict {
-    /// The equation of the proof holds.
+    /// The equation that [`verify`](crate::verify) states holds. It means no
+    /// more than that.
     Accepted,
-    /// It does not.
+    /// The equation does not hold.
     Rejected,
 }
 

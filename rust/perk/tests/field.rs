@@ -4,7 +4,7 @@
 mod common;
 
 use common::{ones, words, WORD};
-use perk::Refusal::{Coordinate, Length};
+use perk::Refusal::{Coordinate, SliceLength};
 use perk::{product, sum, Refusal};
 
 /// A function of two elements of K.
@@ -80,11 +80,11 @@ fn lengths_come_before_coordinates() {
     for entry in [sum as Entry, product] {
         for len in [0, 1, 11, 13, 24] {
             let wrong = vec![2048; len];
-            refused(entry, &wrong, &above, 12, Length);
-            refused(entry, &above, &wrong, 12, Length);
-            refused(entry, &above, &above, len, Length);
+            refused(entry, &wrong, &above, 12, SliceLength);
+            refused(entry, &above, &wrong, 12, SliceLength);
+            refused(entry, &above, &above, len, SliceLength);
         }
-        refused(entry, &[], &[], 0, Length);
+        refused(entry, &[], &[], 0, SliceLength);
     }
 }
 

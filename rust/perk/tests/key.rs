@@ -4,7 +4,7 @@
 mod common;
 
 use common::{words, Case};
-use perk::Refusal::{Position, Top};
+use perk::Refusal::{Position, TopCoefficient};
 use perk::{digits, Verdict};
 
 #[test]
@@ -63,7 +63,7 @@ fn key_a_verify() {
 fn key_a_in_another_order() {
     let mut case = Case::key_a();
     case.positions = vec![1, 0];
-    assert_eq!(case.prove(), Err(Top));
+    assert_eq!(case.prove(), Err(TopCoefficient));
     assert!(case.nothing_written());
     assert_eq!(case.constraints(), Ok(()));
     assert_eq!(case.t_out, [0, 0]);
@@ -74,7 +74,7 @@ fn key_a_in_another_order() {
 fn three_positions_1_1_1() {
     let mut case = Case::three();
     case.positions = vec![1, 1, 1];
-    assert_eq!(case.prove(), Err(Top));
+    assert_eq!(case.prove(), Err(TopCoefficient));
     assert!(case.nothing_written());
     assert_eq!(case.constraints(), Ok(()));
     assert_eq!(case.tops()[..3], [1, 0, 1]);
@@ -84,7 +84,7 @@ fn three_positions_1_1_1() {
 fn three_positions_0_1_3() {
     let mut case = Case::three();
     case.positions = vec![0, 1, 3];
-    assert_eq!(case.prove(), Err(Top));
+    assert_eq!(case.prove(), Err(TopCoefficient));
     assert!(case.nothing_written());
     assert_eq!(case.constraints(), Ok(()));
     assert_eq!(case.tops()[..3], [0, 0, 1]);

@@ -132,9 +132,12 @@ fn a_package_begins_its_check_file() {
 fn a_refused_check_file_has_no_package() {
     let file = check_file(&[]);
     for len in 0..file.len() {
-        assert_eq!(package_of(&file[..len]), Err(Refusal::Short));
+        assert_eq!(package_of(&file[..len]), Err(Refusal::BytesMissing));
     }
-    assert_eq!(package_of(&[&file[..], &[0]].concat()), Err(Refusal::End));
+    assert_eq!(
+        package_of(&[&file[..], &[0]].concat()),
+        Err(Refusal::BytesFollow)
+    );
     let above = check_file(&[(0x14, "14 0048 0800 0.. 0002 0.. 0001 0..")]);
     assert_eq!(package_of(&above), Err(Refusal::Coordinate));
 }

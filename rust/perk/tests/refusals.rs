@@ -215,6 +215,16 @@ fn all_slices_may_be_empty() {
     }
 }
 
+// The names are those of the reference.
+#[test]
+fn names() {
+    let reference = include_str!("../../reference/src/refusal.rs");
+    for refusal in Refusal::ALL {
+        let numbered = format!("Refusal::{refusal:?} => {},", refusal.number());
+        assert!(reference.contains(&numbered), "{numbered}");
+    }
+}
+
 #[test]
 fn numbers_and_words() {
     let numbers = Refusal::ALL.map(Refusal::number);

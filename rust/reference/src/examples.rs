@@ -1,5 +1,5 @@
-//! The text of the program `examples_run`: the examples of document 01 and its
-//! edges, a line each, as the entries here answer them.
+//! The text of the program `examples_run`: the examples of the specification and
+//! its edges, a line each, as the entries here answer them.
 //!
 //! An element of K is its coordinate 0, then each other coordinate c that isn't
 //! zero as `+cY^i`.

@@ -1,4 +1,4 @@
-//! The fields of packages and check files, as document 01 states them.
+//! The fields of packages and check files, as the specification states them.
 
 use crate::key::Sizes;
 
@@ -41,7 +41,7 @@ pub enum Kind {
     Elements,
 }
 
-/// A field as document 01 states it.
+/// A field as the specification states it.
 pub struct Stated {
     /// The tag.
     pub tag: u8,

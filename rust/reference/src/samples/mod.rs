@@ -130,7 +130,7 @@ impl Sample {
         sample
     }
 
-    /// Key A of document 01 with positions 0 1, Δ = 2, α = 1, 2, 1 and the
+    /// Key A of the specification with positions 0 1, Δ = 2, α = 1, 2, 1 and the
     /// serial 7.
     pub fn key_a() -> Sample {
         let mut sample = Sample {

@@ -1,4 +1,4 @@
-//! The twelve examples of document 01, its edges, and the file of key A.
+//! The twelve examples of the specification, its edges, and the file of key A.
 
 use crate::{constraints_of, element, large, tops, values_of, verdict_of};
 use reference::constraint::z;
@@ -130,8 +130,8 @@ fn example_12_positions_0_1_4() {
     assert_eq!(sample.constraints(), Err(Refusal::Position));
 }
 
-/// The file of key A as document 01 writes it, with the zero bytes of "0..".
-fn key_a_of_the_document() -> Vec<u8> {
+/// The file of key A as the specification writes it, with the zero bytes of "0..".
+fn key_a_of_the_specification() -> Vec<u8> {
     let text = "01 0002 0201  02 0004 0002 0001  03 0004 0001 0002  05 0002 0007 \
                 06 0002 0101  07 0018 0005 0..  11 0030 0003 0.. 0004 0..  12 0000 \
                 13 0018 0002 0..  14 0048 0001 0.. 0002 0.. 0001 0..";
@@ -148,7 +148,7 @@ fn key_a_of_the_document() -> Vec<u8> {
 /// The fields of that file.
 fn fields_of_key_a() -> Vec<WrittenField> {
     let fields = Sample::key_a().fields().expect("key A is solved");
-    assert_eq!(join(&fields), key_a_of_the_document());
+    assert_eq!(join(&fields), key_a_of_the_specification());
     fields
 }
 
@@ -161,7 +161,7 @@ fn line_with(tag: u8, change: impl FnOnce(&mut Vec<u8>)) -> String {
 
 #[test]
 fn file_of_key_a() {
-    let file = key_a_of_the_document();
+    let file = key_a_of_the_specification();
     assert_eq!(file.len(), 212);
     assert_eq!(Sample::key_a().check_file().unwrap(), file);
     let contents = Contents {
@@ -258,7 +258,7 @@ fn numbers_of_the_refusals() {
     assert_eq!(numbers, [1, 2, 3, 4, 5, 6, 7, 8, 9, 10, 11, 12]);
 }
 
-/// The lines of `examples_run` that document 01 states.
+/// The lines of `examples_run` that the specification states.
 #[test]
 fn text_of_examples_run() {
     let text = reference::examples::text();

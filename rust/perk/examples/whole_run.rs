@@ -1,0 +1,206 @@
+//! A whole run at n = 64, m = 27: makes a key that a secret order solves, proves
+//! it, writes the check file, checks it, and reads its fields back.
+//!
+//!     cd rust && cargo run -p perk --example whole_run
+//!
+//! The numbers come from a small generator with a fixed seed, so that every run
+//! prints the same lines. In real use the secrets are random, the weights are
+//! taken after the prover's commitment to its correlations and t, and the
+//! challenge after that to a.
+
+use perk::{Key, Masks, Prover, Refusal, WORDS};
+use std::iter::repeat_with;
+
+const N: usize = 64;
+const M: usize = 27;
+const D: usize = perk::digits(N);
+
+/// A generator of test numbers (xorshift); no source of secrets.
+struct Generator(u64);
+
+impl Generator {
+    /// A number below a bound, which is at most 2048.
+    fn below(&mut self, bound: u16) -> u16 {
+        self.0 ^= self.0 << 13;
+        self.0 ^= self.0 >> 7;
+        self.0 ^= self.0 << 17;
+        ((self.0 >> 32) % u64::from(bound)) as u16
+    }
+
+    /// Elements of F.
+    fn words(&mut self, count: usize) -> Vec<u16> {
+        repeat_with(|| self.below(2048)).take(count).collect()
+    }
+}
+
+/// a times b in F, where z^11 = z^2 + 1.
+fn times(a: u16, b: u16) -> u16 {
+    let mut product = 0;
+    for bit in (0..11).rev() {
+        product <<= 1; // times z
+        if product > 2047 {
+            product ^= 0b1000_0000_0101;
+        }
+        if b >> bit & 1 == 1 {
+            product ^= a;
+        }
+    }
+    product
+}
+
+/// 1 / a in F, for a other than 0: a to the power 2^11 - 2.
+fn inverse(a: u16) -> u16 {
+    (1..2047).fold(1, |power, _| times(power, a))
+}
+
+/// The m rows of H. Among the first m columns row e has a 1 in column e and 0 in
+/// the others, so the rows do not depend on each other. The entries after these
+/// are random, but for the last, which makes the row times `ordered` zero.
+fn rows_for(ordered: &[u16], random: &mut Generator) -> Vec<u16> {
+    let last = inverse(ordered[N - 1]);
+    let mut h = Vec::new();
+    for e in 0..M {
+        let mut row = vec![0; M];
+        row[e] = 1;
+        row.extend(random.words(N - M - 1));
+        let sum = row
+            .iter()
+            .zip(ordered)
+            .fold(0, |s, (h, x)| s ^ times(*h, *x));
+        row.push(times(sum, last));
+        h.extend(row);
+    }
+    h
+}
+
+/// a delta + b in K.
+fn line(a: &[u16], delta: &[u16], b: &[u16]) -> Result<[u16; WORDS], Refusal> {
+    let (mut product, mut sum) = ([0; WORDS], [0; WORDS]);
+    perk::product(a, delta, &mut product)?;
+    perk::sum(&product, b, &mut sum)?;
+    Ok(sum)
+}
+
+/// The bytes of words, highest first.
+fn bytes(words: &[u16]) -> Vec<u8> {
+    words.iter().flat_map(|word| word.to_be_bytes()).collect()
+}
+
+/// A field: tag, length, content.
+fn field(tag: u8, content: &[u8]) -> Vec<u8> {
+    let length = (content.len() as u16).to_be_bytes();
+    [&[tag][..], &length, content].concat()
+}
+
+/// What the library says of a check file.
+fn said(file: &[u8]) -> String {
+    match perk::check(file) {
+        Ok(verdict) => verdict.to_string(),
+        Err(refusal) => format!("refused {}: {refusal}", refusal.number()),
+    }
+}
+
+fn main() -> Result<(), Refusal> {
+    let random = &mut Generator(2025);
+
+    // the key: x has different entries, none of them 0, and H is made for the
+    // secret order
+    let mut x = Vec::new();
+    while x.len() < N {
+        let element = random.below(2048);
+        if element != 0 && !x.contains(&element) {
+            x.push(element);
+        }
+    }
+    let mut positions: Vec<u8> = (0..N as u8).collect();
+    for i in (1..N).rev() {
+        positions.swap(i, random.below(i as u16 + 1).into());
+    }
+    let ordered: Vec<u16> = positions.iter().map(|i| x[usize::from(*i)]).collect();
+    let h = rows_for(&ordered, random);
+    let key = Key {
+        n: N,
+        m: M,
+        h: &h,
+        x: &x,
+    };
+
+    // the prover's part
+    let u: Vec<u8> = repeat_with(|| random.below(2) as u8).take(N * D).collect();
+    let v = random.words(WORDS * N * D);
+    let r = random.words(WORDS * (D - 1));
+    let s = random.words(WORDS * (D - 1));
+    let alpha = random.words(WORDS * (N + M));
+    let prover = Prover {
+        positions: &positions,
+        u: &u,
+        v: &v,
+    };
+    let masks = Masks { r: &r, s: &s };
+    let (mut t, mut a) = (vec![0; N * D], vec![0; WORDS * D]);
+    perk::prove(key, prover, masks, &alpha, &mut t, &mut a)?;
+    println!("proved: t has {} bytes, a has {D} elements of K", t.len());
+
+    // another order does not solve the key
+    let mut other = positions.clone();
+    other.swap(0, 1);
+    let prover = Prover {
+        positions: &other,
+        ..prover
+    };
+    if let Err(refusal) = perk::prove(key, prover, masks, &alpha, &mut t, &mut a) {
+        println!("another order: refused {}: {refusal}", refusal.number());
+    }
+
+    // the verifier's part: the challenge, q = u delta + v and the mask numbers
+    // s delta + r
+    let delta = random.words(WORDS);
+    let mut q = Vec::new();
+    for (u, v) in u.iter().zip(v.chunks(WORDS)) {
+        let mut bit = [0; WORDS];
+        bit[0] = u16::from(*u);
+        q.extend(line(&bit, &delta, v)?);
+    }
+    let mut numbers = Vec::new();
+    for (r, s) in r.chunks(WORDS).zip(s.chunks(WORDS)) {
+        numbers.extend(line(s, &delta, r)?);
+    }
+    let verdict = perk::verify(key, &t, &q, &delta, &numbers, &alpha, &a)?;
+    println!("verify: {verdict}");
+
+    // the check file
+    let file = [
+        field(0x01, &[N as u8, M as u8]),
+        field(0x02, &bytes(&h)),
+        field(0x03, &bytes(&x)),
+        field(0x05, &bytes(&[1234])),
+        field(0x06, &t),
+        field(0x07, &bytes(&a)),
+        field(0x11, &bytes(&q)),
+        field(0x12, &bytes(&numbers)),
+        field(0x13, &bytes(&delta)),
+        field(0x14, &bytes(&alpha)),
+    ]
+    .concat();
+    println!("check file of {} bytes: {}", file.len(), said(&file));
+
+    // the package that it begins with, and its fields
+    let package = perk::package_of(&file)?;
+    let contents = perk::read_package(package)?;
+    let (n, m, serial) = (contents.n, contents.m, contents.serial);
+    println!(
+        "package of {} bytes: serial {serial} n {n} m {m}",
+        package.len()
+    );
+    assert_eq!(perk::field(package, 0x06), t);
+    assert_eq!(perk::field(package, 0x07), bytes(&a));
+
+    // one byte changed: the last of a, and the first of the file
+    let mut changed = file.clone();
+    changed[package.len() - 1] ^= 1;
+    println!("last byte of a changed: {}", said(&changed));
+    let mut changed = file.clone();
+    changed[0] ^= 1;
+    println!("first byte changed: {}", said(&changed));
+    Ok(())
+}

@@ -289,10 +289,10 @@ static inline const char *perk_refusal_text(uint32_t number) {
         "a byte of u or t is above 1",
         "a coordinate of an element of K is above 2047",
         "a position is 2^d or more",
-        "the positions do not solve the key",
-        "the bytes end before the field does",
-        "not the tag that comes next",
-        "not the length of this field",
+        "a top coefficient is not zero: the positions do not solve the key",
+        "the bytes end before a field is complete",
+        "a tag is not the one that comes next",
+        "a field's length is not the one stated for it",
         "bytes follow the last field"};
     if (number < sizeof texts / sizeof texts[0]) return texts[number];
     return number == PERK_REJECTED ? "rejected" : "no result of this library";

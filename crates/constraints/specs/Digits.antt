@@ -1,4 +1,4 @@
--- The digits modelling: the specification, 'Key, witness, masks' and 'The polynomials'.
+-- The digits modelling: the specification, 'Key, positions, correlations' and 'Polynomials and values'.
 use mathlib.Core.Bool.{Bool, not, cond}
 use Prim.Native.Nat.{ℕ, _-_, _/_, _%_, _^_}
 use lib.Dec.{ltb}

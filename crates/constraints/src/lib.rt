@@ -1,4 +1,4 @@
-// The entries constraints and values: the specification, 'The polynomials'.
+// The entries constraints and values: the specification, 'Polynomials and values'.
 ghost use mathlib.Core.Path.{_≡_};
 ghost use mathlib.Core.List.{List};
 ghost use Prim.Native.Nat.{ℕ};

@@ -1,4 +1,4 @@
--- The fields of packages and check files, in order: the specification, 'The package'.
+-- The fields of packages and check files, in order: the specification, 'Packages and check files'.
 use mathlib.Core.List.{List, [], _∷_, _++_}
 use Prim.Native.Nat.{_-_, _*_}
 use Rattle.field.specs.declared.Level.{Level}

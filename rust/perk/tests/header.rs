@@ -1,16 +1,21 @@
-//! The declarations in src/c.rs are those of include/perk.h: the same functions
-//! with the same parameters, name by name and type by type.
+//! The functions of libperk.a are declared alike where they are written
+//! (crates/perk/src/lib.rt), in include/perk.h and in src/c.rs: the same names,
+//! results and parameters, name by name and type by type. The header's texts of
+//! refusals are those of this package.
 
 use std::collections::BTreeMap;
 
+use perk::Refusal;
+
 const HEADER: &str = include_str!("../../../include/perk.h");
+const RATTLE: &str = include_str!("../../../crates/perk/src/lib.rt");
 const RUST: &str = include_str!("../src/c.rs");
 
 /// A function: its result, and each parameter's name and type, in Rust's words.
 type Function = (String, Vec<(String, String)>);
 
-/// The functions of the header.
-fn of_header() -> BTreeMap<String, Function> {
+/// The header without its comments.
+fn without_comments() -> String {
     let mut code = String::new();
     for (index, part) in HEADER.split("/*").enumerate() {
         code += match index {
@@ -18,8 +23,27 @@ fn of_header() -> BTreeMap<String, Function> {
             _ => part.split_once("*/").expect("the comment ends").1,
         };
     }
-    let code: Vec<&str> = code.lines().filter(|line| !line.starts_with('#')).collect();
-    let code = code.join(" ").replace("extern \"C\" {", "");
+    code
+}
+
+/// The functions of the header, without the inline one that follows them.
+fn of_header() -> BTreeMap<String, Function> {
+    let code = without_comments();
+    let (code, _) = code.split_once("static inline ").expect("the texts");
+    // a directive goes on where its line ends in a backslash
+    let mut kept = String::new();
+    let mut directive = false;
+    for line in code.lines() {
+        directive |= line.starts_with('#');
+        if !directive {
+            kept += line;
+            kept += " ";
+        }
+        directive &= line.ends_with('\\');
+    }
+    let code = kept
+        .replace("extern \"C\" {", "")
+        .replace("PERK_LOOK_AT_RESULT", "");
     let functions = code.split(';').filter_map(|text| text.split_once('('));
     functions
         .map(|(before, after)| {
@@ -53,6 +77,13 @@ fn type_of_c(name: &str) -> &str {
     }
 }
 
+/// The parameters in `text`, each a name and a type.
+fn parameters(text: &str) -> impl Iterator<Item = (&str, &str)> {
+    let parameters = text.split(',').map(str::trim);
+    let parameters = parameters.filter(|parameter| !parameter.is_empty());
+    parameters.map(|parameter| parameter.split_once(": ").expect("a type"))
+}
+
 /// The functions of src/c.rs.
 fn of_rust() -> BTreeMap<String, Function> {
     let functions = RUST.split("pub fn ").skip(1);
@@ -60,25 +91,69 @@ fn of_rust() -> BTreeMap<String, Function> {
         .map(|text| {
             let (before, _) = text.split_once(';').expect("its end");
             let (name, after) = before.split_once('(').expect("parameters");
-            let (parameters, result) = after.split_once(") -> ").expect("a result");
-            let parameters = parameters.split(',').map(str::trim);
-            let parameters = parameters.filter(|parameter| !parameter.is_empty());
-            let parameters = parameters.map(|parameter| {
-                let (name, kind) = parameter.split_once(": ").expect("a type");
-                (name.into(), kind.into())
-            });
-            (name.into(), (result.into(), parameters.collect()))
+            let (list, result) = after.split_once(") -> ").expect("a result");
+            let list = parameters(list).map(|(name, kind)| (name.into(), kind.into()));
+            (name.into(), (result.into(), list.collect()))
         })
         .collect()
 }
 
+/// The functions that crates/perk exports.
+fn of_rattle() -> BTreeMap<String, Function> {
+    let functions = RATTLE.split("pub extern \"C\" fn ").skip(1);
+    functions
+        .map(|text| {
+            let (name, after) = text.split_once('(').expect("parameters");
+            let (list, after) = after.split_once(") -> ").expect("a result");
+            let result = after.split_whitespace().next().expect("a result");
+            let list = parameters(list).flat_map(|(name, kind)| passed(name, kind));
+            (name.into(), (result.into(), list.collect()))
+        })
+        .collect()
+}
+
+/// How a parameter of an exported function is passed: a slice as a pointer and a
+/// length, a reference to a number as a pointer, a number as itself.
+fn passed(name: &str, kind: &str) -> Vec<(String, String)> {
+    let (pointer, target) = match (kind.strip_prefix("&mut "), kind.strip_prefix('&')) {
+        (Some(target), _) => ("*mut", target),
+        (None, Some(target)) => ("*const", target),
+        (None, None) => return vec![(name.into(), kind.into())],
+    };
+    match target.strip_prefix('[') {
+        Some(element) => {
+            let element = element.strip_suffix(']').expect("a slice");
+            vec![
+                (name.into(), format!("{pointer} {element}")),
+                (format!("{name}_len"), "usize".into()),
+            ]
+        }
+        None => vec![(name.into(), format!("{pointer} {target}"))],
+    }
+}
+
 #[test]
 fn declarations_agree() {
+    let rattle = of_rattle();
     let header = of_header();
     let rust = of_rust();
-    assert!(rust["perk_sum"].1.len() == 6 && header.contains_key("perk_verify"));
-    assert!(rust.keys().eq(header.keys()), "other functions");
-    for (name, function) in rust {
-        assert_eq!(function, header[&name], "{name}");
+    assert!(rattle.len() >= 10 && rattle["perk_sum"].1.len() == 6);
+    assert!(rattle.keys().eq(header.keys()), "perk.h: other functions");
+    assert!(rattle.keys().eq(rust.keys()), "c.rs: other functions");
+    for (name, function) in rattle {
+        assert_eq!(function, header[&name], "perk.h: {name}");
+        assert_eq!(function, rust[&name], "c.rs: {name}");
+    }
+}
+
+#[test]
+fn texts_agree() {
+    let code = without_comments();
+    let (_, table) = code.split_once("texts[] = {").expect("the texts");
+    let (table, _) = table.split_once('}').expect("their end");
+    let texts: Vec<&str> = table.split('"').skip(1).step_by(2).collect();
+    assert_eq!(texts.len(), 1 + Refusal::ALL.len());
+    for refusal in Refusal::ALL {
+        assert_eq!(texts[refusal.number() as usize], refusal.to_string());
     }
 }

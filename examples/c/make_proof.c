@@ -3,7 +3,7 @@
  * A card that cannot prove says what was wrong.
  *
  *   gcc -I../../include make_proof.c ../../target/staticlib/libperk.a -o make_proof
- *   ./make_proof 0 1 > key_a.package         ./make_proof 1 0        (refused 8: the positions do not solve the key)
+ *   ./make_proof 0 1 > key_a.package         ./make_proof 1 0        (refused 8)
  */
 #include <stdio.h>
 #include <stdlib.h>

@@ -1,136 +1,112 @@
 //! The entry verify.
 
-use super::keyed::{self, set_bytes, set_words, Keyed, Slice, DELTA, H, Q, T, X};
-use super::rounds::{self, Round};
+use super::faults::fault_groups;
+use super::keyed::{self, bits_of, changed, fill, of_sample, of_sizes, sizes_of, Keyed};
+use super::rounds::{self, InRounds, Round};
 use super::witnesses;
 use super::{DONE, REJECTED};
-use crate::case::{Case, Entry, Group};
+use crate::case::{Case, Entry, Group, Taken};
+use crate::kinds::Kind;
 use crate::lent::Lent;
 use crate::library;
+use crate::slices::{A, ALPHA, DELTA, H, MASKS, Q, T, X};
 use reference::key::{elements_of_k, Sizes};
 use reference::large_field::{COORDINATES, K};
-use reference::samples::{Generator, Sample};
-use reference::{Refusal, Verdict};
+use reference::samples::{independent, Generator, Sample};
+use reference::{Key, Refusal, Verdict};
 
-/// The slices of verify.
+/// The slices and the refusals of verify.
 pub struct Verify;
 
 impl Keyed for Verify {
-    const INPUTS: &'static [Slice] = &[
-        Slice::H,
-        Slice::X,
-        Slice::BITS,
-        Slice::CORRELATIONS,
-        Slice::DELTA,
-        Slice::MASKS,
-        Slice::WEIGHTS,
-        Slice::PROOF,
+    const READS: &'static [&'static str] = &[T, Q, DELTA, MASKS, ALPHA, A];
+    const WRITES: &'static [&'static str] = &[];
+    const REFUSALS: &'static [Refusal] = &[
+        Refusal::SizeN,
+        Refusal::SizeM,
+        Refusal::SliceLength,
+        Refusal::KeyElement,
+        Refusal::Bit,
+        Refusal::Coordinate,
     ];
-    const OUTPUTS: &'static [Slice] = &[];
 
     /// About every other case is accepted.
     fn right(sizes: Sizes, generator: &mut Generator) -> Case {
-        let case = balanced(keyed::of_sizes::<Verify>(sizes, generator));
+        let case = balanced(of_sizes::<Verify>(sizes, generator));
         if generator.below(2) == 0 {
             return case;
         }
         let index = generator.below(COORDINATES);
-        changed(&case, A, index, Some(REJECTED), generator)
+        with_bit_changed(&case, A, index, generator).answering(Some(REJECTED))
     }
+}
+
+/// An implementation of verify.
+type Function<A> = fn(Key<'_>, &[u8], &[u16], &[u16], &[u16], &[u16], &[u16]) -> A;
+
+/// Calls an implementation.
+fn call<Answer>(function: Function<Answer>, taken: &Taken) -> Answer {
+    function(
+        taken.key(),
+        taken.bytes(T),
+        taken.words(Q),
+        taken.words(DELTA),
+        taken.words(MASKS),
+        taken.words(ALPHA),
+        taken.words(A),
+    )
 }
 
 /// The entry verify.
 pub const VERIFY: Entry = Entry {
     name: "verify",
-    numbers: library::verify::NUMBERS,
-    inputs: library::verify::INPUTS,
-    outputs: library::verify::OUTPUTS,
     done: &[DONE, REJECTED],
-    refusals: &[1, 2, 3, 4, 5, 6],
-    library: |numbers, inputs, outputs| {
-        library::verify::with(library::verify, numbers, inputs, outputs)
-    },
-    reference: |numbers, inputs, outputs| {
-        let entry = reference::verify;
-        verdict(library::verify::with(entry, numbers, inputs, outputs))
-    },
-    table: None,
-    groups: &[
-        EXAMPLES,
-        HONEST,
-        CHANGED,
-        EVERY_BIT,
-        ZEROS,
-        CHALLENGE_ZERO,
-        ANY_NUMBERS,
-        SMALL_N,
-        EXTREMES,
-        LARGEST,
-        ABOVE_A_POWER,
-        ALL_T,
-        keyed::sizes_out_of_range::<Verify>(),
-        keyed::one_fault::<Verify>(),
-        keyed::every_place::<Verify>(),
-        keyed::other_lengths::<Verify>(),
-        keyed::empty_slices::<Verify>(),
-        keyed::two_faults::<Verify>(),
-        keyed::random_faults::<Verify>(),
-    ],
-    least: &[
-        rounds::done_at_largest(LARGEST.name),
-        rounds::done_above_a_power(ABOVE_A_POWER.name),
-    ],
-};
-
-/// The number of an answer of the reference.
-fn verdict(answer: Result<Verdict, Refusal>) -> u32 {
-    match answer {
+    refusals: Verify::REFUSALS,
+    library: |taken, _| call(library::verify, taken),
+    reference: |taken, _| match call(reference::verify, taken) {
         Ok(Verdict::Accepted) => DONE,
         Ok(Verdict::Rejected) => REJECTED,
         Err(refusal) => refusal.number(),
-    }
-}
-
-// The further inputs.
-const MASKS: usize = 5;
-const ALPHA: usize = 6;
-const A: usize = 7;
-
-/// A case with a sample, this t and this a, and its answer.
-fn case(
-    sample: &Sample,
-    t: &[u8],
-    a: &[u16],
-    answer: Option<u32>,
-    generator: &mut Generator,
-) -> Case {
-    let sizes = keyed::sizes(sample.n, sample.m);
-    let mut case = keyed::of_sizes::<Verify>(sizes, generator);
-    for (input, words) in [
-        (H, &sample.h[..]),
-        (X, &sample.x),
-        (Q, &sample.q),
-        (DELTA, &sample.delta),
-        (MASKS, &sample.masks),
-        (ALPHA, &sample.alpha),
-        (A, a),
-    ] {
-        set_words(&mut case, input, words);
-    }
-    set_bytes(&mut case, T, t);
-    Case { answer, ..case }
-}
+    },
+    packed: Some(|taken, _| call(packed::verify, taken)),
+    groups: || {
+        let own = vec![
+            EXAMPLES,
+            HONEST,
+            CHANGED,
+            EVERY_BIT,
+            ZEROS,
+            CHALLENGE_ZERO,
+            ANY_NUMBERS,
+            SMALL_N,
+            EXTREMES,
+            ALL_T,
+        ];
+        let rounds = rounds::groups::<Verify>();
+        [own, rounds, fault_groups::<Verify>()].concat()
+    },
+    least: rounds::LEAST,
+    ..keyed::ENTRY
+};
 
 /// A case with the proof of a sample whose positions solve the key.
 fn honest(sample: &Sample, generator: &mut Generator) -> Case {
-    let (t, a) = sample.proof().expect("the positions solve the key");
-    case(sample, &t, &a, Some(DONE), generator)
+    let (t, a) = witnesses::proof(sample);
+    let mut case = of_sample::<Verify>(sample, generator);
+    case.set_bytes(T, &t);
+    case.set_words(A, &a);
+    case.answering(Some(DONE))
 }
 
-/// A random sample whose positions solve the key, with this challenge.
-fn sample(n: usize, m: usize, challenge: usize, generator: &mut Generator) -> Sample {
+/// The proof of a random sample at a challenge of this kind.
+fn honest_at(Sizes { n, m, .. }: Sizes, challenge: Kind, generator: &mut Generator) -> Case {
+    honest(&sample(n, m, challenge, generator), generator)
+}
+
+/// A random sample whose positions solve the key, with a challenge of this kind.
+pub fn sample(n: usize, m: usize, challenge: Kind, generator: &mut Generator) -> Sample {
     let mut sample = Sample::solving(n, m, generator);
-    sample.delta = keyed::CHALLENGES[challenge](generator);
+    sample.delta = challenge.challenge(generator);
     sample.make_honest();
     sample
 }
@@ -141,21 +117,18 @@ fn elements(input: &Lent) -> Vec<K> {
 }
 
 /// The case with coefficient 0 of a such that the equation of the verifier
-/// holds.
+/// holds. The values are those of the package packed.
 fn balanced(mut case: Case) -> Case {
-    let sizes = keyed::sizes(case.numbers[0], case.numbers[1]);
-    let mut values = [Lent::with_words(
-        &vec![0; sizes.weight_words()],
-        &mut Generator::new(0),
-    )];
-    let inputs = &case.inputs[..MASKS];
-    library::values::with(reference::values, &case.numbers, inputs, &mut values)
-        .expect("no refusal applies");
+    let mut values = vec![0; sizes_of(&case).weight_words()];
+    let [t, q, delta] = [T, Q, DELTA].map(|name| &case.inputs[name]);
+    let answer = packed::values(case.key(), t.bytes(), q.words(), delta.words(), &mut values);
+    assert_eq!(answer, DONE, "no refusal applies");
 
-    let delta = elements(&case.inputs[DELTA])[0];
-    let [masks, alpha, a] = [MASKS, ALPHA, A].map(|input| elements(&case.inputs[input]));
+    let delta = elements(delta)[0];
+    let [masks, alpha, a] = [MASKS, ALPHA, A].map(|name| elements(&case.inputs[name]));
+    let values = elements_of_k(&values).expect("values of K");
     let mut sum = K::ZERO;
-    for (alpha, value) in alpha.into_iter().zip(elements(&values[0])) {
+    for (alpha, value) in alpha.into_iter().zip(values) {
         sum = sum + alpha * value;
     }
     for (k, mask) in masks.into_iter().enumerate() {
@@ -165,28 +138,13 @@ fn balanced(mut case: Case) -> Case {
         sum = sum + delta.power(k) * coefficient;
     }
     case.inputs[A].words_mut()[..COORDINATES].copy_from_slice(&sum.words());
-    case.answer = Some(DONE);
-    case
-}
-
-/// The case with one bit changed in this element of an input, and its answer.
-fn changed(
-    case: &Case,
-    input: usize,
-    index: usize,
-    answer: Option<u32>,
-    generator: &mut Generator,
-) -> Case {
-    let bits = if input == T { 1 } else { 11 };
-    let mut case = case.clone();
-    case.inputs[input].change(index, generator.below(bits));
-    Case { answer, ..case }
+    case.answering(Some(DONE))
 }
 
 /// The answer to an accepted case with another element of this input, where it
 /// is known without the reference: K has no zero divisors, so a change of a or
 /// of a mask number is seen, unless the challenge is zero and the power isn't.
-fn answer_to_change(case: &Case, input: usize, index: usize) -> Option<u32> {
+fn answer_to_change(case: &Case, input: &str, index: usize) -> Option<u32> {
     if input != A && input != MASKS {
         return None;
     }
@@ -198,198 +156,228 @@ fn answer_to_change(case: &Case, input: usize, index: usize) -> Option<u32> {
     })
 }
 
-const EXAMPLES: Group = Group {
-    name: "examples of document 01",
-    cases: |generator, each| {
-        let key_a = Sample::key_a();
-        for (word, answer) in [(5, DONE), (4, REJECTED)] {
-            let mut a = vec![0; COORDINATES];
-            a[0] = word;
-            each(case(&key_a, &[1, 1], &a, Some(answer), generator));
-        }
-    },
-};
+/// Whether the rows of H do not depend on each other.
+fn has_independent_rows(case: &Case) -> bool {
+    let key = case.key();
+    independent(key.h, key.n)
+}
 
-const HONEST: Group = Group {
-    name: "every n, honest proofs, challenge random, zero or one",
-    cases: |generator, each| {
-        for n in keyed::EVERY_N {
-            for (round, m) in keyed::some_m(n, generator).into_iter().enumerate() {
-                if n <= keyed::ALL_VARIANTS || round == n % 3 {
-                    let sample = sample(n, m, (n / 3 + round) % 3, generator);
-                    each(honest(&sample, generator));
-                }
-            }
+/// The accepted case with one bit changed in this element of an input. The rows
+/// of H do not depend on each other afterwards.
+fn with_bit_changed(case: &Case, input: &str, index: usize, generator: &mut Generator) -> Case {
+    loop {
+        let bit = generator.below(bits_of(input));
+        let changed = changed(case, input, index, bit);
+        if input != H || has_independent_rows(&changed) {
+            return changed.answering(answer_to_change(case, input, index));
         }
-    },
-};
+    }
+}
 
-const CHANGED: Group = Group {
-    name: "every n, one bit of an honest proof changed, in each slice",
-    cases: |generator, each| {
+/// The accepted case with one bit changed in any element of an input; none when
+/// the input is empty.
+fn with_any_change(case: &Case, input: &str, generator: &mut Generator) -> Option<Case> {
+    let len = case.inputs[input].len();
+    (len > 0).then(|| {
+        let index = generator.below(len);
+        with_bit_changed(case, input, index, generator)
+    })
+}
+
+const EXAMPLES: Group = Group::new("examples of document 01", |generator, each| {
+    for (word, answer) in [(5, DONE), (4, REJECTED)] {
+        let mut case = of_sample::<Verify>(&Sample::key_a(), generator);
+        let mut a = vec![0; COORDINATES];
+        a[0] = word;
+        case.set_bytes(T, &[1, 1]);
+        case.set_words(A, &a);
+        each(case.answering(Some(answer)));
+    }
+});
+
+const HONEST: Group = Group::new(
+    "every n, honest proofs, challenge random, zero or one",
+    |generator, each| {
+        keyed::every_size(generator, &mut |sizes, turn, generator| {
+            each(honest_at(sizes, Kind::CHALLENGES[turn % 3], generator));
+        });
+    },
+);
+
+const CHANGED: Group = Group::new(
+    "every n, one bit of an honest proof changed, in each slice",
+    |generator, each| {
         for n in keyed::EVERY_N {
             let m = keyed::some_m(n, generator)[n % 3];
-            let case = honest(&sample(n, m, 0, generator), generator);
-            for input in 0..case.inputs.len() {
-                let len = case.inputs[input].len();
-                let turn = n <= keyed::ALL_VARIANTS || (n + input) % 4 == 0;
-                if turn && len > 0 {
-                    let index = generator.below(len);
-                    let answer = answer_to_change(&case, input, index);
-                    each(changed(&case, input, index, answer, generator));
+            let case = honest_at(keyed::sizes(n, m), Kind::Random, generator);
+            for (turn, input) in case.inputs.names().into_iter().enumerate() {
+                if n <= keyed::ALL_VARIANTS || (n + turn) % 4 == 0 {
+                    with_any_change(&case, input, generator)
+                        .into_iter()
+                        .for_each(&mut *each);
                 }
             }
         }
     },
-};
+);
 
-const EVERY_BIT: Group = Group {
-    name: "every bit of an honest proof changed, for n = 2, 3; every word for n = 5",
-    cases: |generator, each| {
+/// Every element of every input with each of its bits.
+fn all_bits(case: &Case) -> Vec<(&'static str, usize, usize)> {
+    let mut list = Vec::new();
+    for (input, lent) in case.inputs.iter() {
+        for index in 0..lent.len() {
+            list.extend((0..bits_of(input)).map(|bit| (input, index, bit)));
+        }
+    }
+    list
+}
+
+/// An honest proof of these sizes. Whatever bit of H is changed, the rows do not
+/// depend on each other.
+fn honest_with_bits(n: usize, m: usize, generator: &mut Generator) -> Case {
+    loop {
+        let case = honest_at(keyed::sizes(n, m), Kind::Random, generator);
+        let bits = all_bits(&case)
+            .into_iter()
+            .filter(|&(input, ..)| input == H);
+        let mut others = bits.map(|(input, index, bit)| changed(&case, input, index, bit));
+        if others.all(|other| has_independent_rows(&other)) {
+            return case;
+        }
+    }
+}
+
+const EVERY_BIT: Group = Group::new(
+    "every bit of an honest proof changed, for n = 2, 3; every word for n = 5",
+    |generator, each| {
         for (n, m) in [(2, 1), (3, 2), (5, 2)] {
-            let honest = honest(&sample(n, m, 0, generator), generator);
-            for input in 0..honest.inputs.len() {
-                let bits = if input == T { 1 } else { 11 };
-                for index in 0..honest.inputs[input].len() {
-                    let only = (n == 5).then(|| generator.below(bits));
-                    for bit in (0..bits).filter(|&bit| only.is_none_or(|only| bit == only)) {
-                        let mut case = honest.clone();
-                        case.answer = answer_to_change(&case, input, index);
-                        case.inputs[input].change(index, bit);
-                        each(case);
-                    }
+            let honest = honest_with_bits(n, m, generator);
+            let mut only = 0;
+            for (input, index, bit) in all_bits(&honest) {
+                if bit == 0 {
+                    only = generator.below(bits_of(input));
+                }
+                if n < 5 || bit == only {
+                    let case = changed(&honest, input, index, bit);
+                    each(case.answering(answer_to_change(&honest, input, index)));
                 }
             }
         }
     },
-};
+);
 
-const ZEROS: Group = Group {
-    name: "every n, challenge, weights or a zero",
-    cases: |generator, each| {
+const ZEROS: Group = Group::new(
+    "every n, challenge, weights or a zero",
+    |generator, each| {
         for n in keyed::EVERY_N {
             let m = keyed::some_m(n, generator)[(n + 1) % 3];
             for set in 1..8 {
-                if n > keyed::ALL_VARIANTS && set != 1 + n % 7 {
-                    continue;
+                if n <= keyed::ALL_VARIANTS || set == 1 + n % 7 {
+                    each(with_zeros(n, m, set, generator));
                 }
-                let mut sample = sample(n, m, set & 1, generator);
-                if set & 2 != 0 {
-                    sample.alpha.fill(0);
-                }
-                let mut case = honest(&sample, generator);
-                if set & 4 != 0 {
-                    case.inputs[A].words_mut().fill(0);
-                    case.answer = None;
-                }
-                each(case);
             }
             // With zero weights every key, every t and every q is accepted.
-            let mut case = keyed::of_sizes::<Verify>(keyed::sizes(n, m), generator);
-            case.inputs[ALPHA].words_mut().fill(0);
+            let mut case = of_sizes::<Verify>(keyed::sizes(n, m), generator);
+            fill(&mut case, &[(ALPHA, Kind::Zero)], generator);
             if n % 2 == 0 {
-                for input in [MASKS, A] {
-                    case.inputs[input].words_mut().fill(0);
-                }
-                case.answer = Some(DONE);
-                each(case);
+                fill(
+                    &mut case,
+                    &[(MASKS, Kind::Zero), (A, Kind::Zero)],
+                    generator,
+                );
+                each(case.answering(Some(DONE)));
             } else {
                 each(balanced(case));
             }
         }
     },
-};
+);
 
-const CHALLENGE_ZERO: Group = Group {
-    name: "challenge zero, each word of a and of the mask numbers changed",
-    cases: |generator, each| {
+/// An honest proof with challenge, weights or a zero, as the bits of the set
+/// say.
+fn with_zeros(n: usize, m: usize, set: usize, generator: &mut Generator) -> Case {
+    let mut sample = sample(n, m, Kind::CHALLENGES[set & 1], generator);
+    if set & 2 != 0 {
+        sample.alpha.fill(0);
+    }
+    let mut case = honest(&sample, generator);
+    if set & 4 != 0 {
+        fill(&mut case, &[(A, Kind::Zero)], generator);
+        case.answer = None;
+    }
+    case
+}
+
+const CHALLENGE_ZERO: Group = Group::new(
+    "challenge zero, each word of a and of the mask numbers changed",
+    |generator, each| {
         for (n, m) in [(2, 1), (3, 1), (5, 2), (9, 4)] {
-            let case = honest(&sample(n, m, 1, generator), generator);
+            let case = honest_at(keyed::sizes(n, m), Kind::Zero, generator);
             for input in [MASKS, A] {
                 for index in 0..case.inputs[input].len() {
-                    let answer = answer_to_change(&case, input, index);
-                    each(changed(&case, input, index, answer, generator));
+                    each(with_bit_changed(&case, input, index, generator));
                 }
             }
         }
     },
-};
+);
 
-const ANY_NUMBERS: Group = Group {
-    name: "every n, any numbers for which the equation holds, and a changed",
-    cases: |generator, each| {
+const ANY_NUMBERS: Group = Group::new(
+    "every n, any numbers for which the equation holds, and a changed",
+    |generator, each| {
         for n in keyed::EVERY_N {
             let m = keyed::some_m(n, generator)[(n + 2) % 3];
-            let mut case = keyed::of_sizes::<Verify>(keyed::sizes(n, m), generator);
-            let delta = keyed::CHALLENGES[n / 3 % 3](generator);
-            set_words(&mut case, DELTA, &delta);
+            let mut case = of_sizes::<Verify>(keyed::sizes(n, m), generator);
+            let delta = Kind::CHALLENGES[n / 3 % 3];
+            fill(&mut case, &[(DELTA, delta)], generator);
             let case = balanced(case);
-            let index = generator.below(case.inputs[A].len());
-            let answer = answer_to_change(&case, A, index);
-            each(changed(&case, A, index, answer, generator));
+            with_any_change(&case, A, generator)
+                .into_iter()
+                .for_each(&mut *each);
             each(case);
         }
     },
-};
+);
 
-const SMALL_N: Group = Group {
-    name: "n to 9, every m",
-    cases: |generator, each| {
-        for n in 2..=9 {
-            for m in 1..n {
-                for round in 0..12 {
-                    let challenge = round % 3;
-                    let case = if round % 2 == 0 {
-                        honest(&sample(n, m, challenge, generator), generator)
-                    } else {
-                        Verify::right(keyed::sizes(n, m), generator)
-                    };
-                    if round % 4 == 0 {
-                        let input = generator.below(case.inputs.len());
-                        let len = case.inputs[input].len();
-                        if len > 0 {
-                            let index = generator.below(len);
-                            each(changed(&case, input, index, None, generator));
-                        }
-                    }
-                    each(case);
-                }
-            }
+const SMALL_N: Group = Group::new("n to 9, every m", |generator, each| {
+    keyed::small_sizes(12, &mut |sizes, round| {
+        let case = if round % 2 == 0 {
+            honest_at(sizes, Kind::CHALLENGES[round % 3], generator)
+        } else {
+            Verify::right(sizes, generator)
+        };
+        if round % 4 == 0 {
+            let names = case.inputs.names();
+            let input = names[generator.below(names.len())];
+            let changed = with_any_change(&case, input, generator);
+            changed.into_iter().for_each(&mut *each);
         }
-    },
-};
+        each(case);
+    });
+});
 
-const EXTREMES: Group = Group {
-    name: "every n, words all 0 or 2047, bits all 0 or 1",
-    cases: |generator, each| {
-        for n in keyed::EVERY_N {
-            for (round, [key, t, q, sums]) in keyed::extremes(n).into_iter().enumerate() {
-                let m = keyed::some_m(n, generator)[n % 3];
-                let sizes = keyed::sizes(n, m);
-                let mut case = keyed::of_sizes::<Verify>(sizes, generator);
-                for (input, kind) in [
-                    (H, key),
-                    (X, key),
-                    (Q, q),
-                    (DELTA, (n + round) % 3),
-                    (MASKS, sums),
-                    (ALPHA, (sums + round / 3) % 3),
-                    (A, (sums + round / 9) % 3),
-                ] {
-                    let words = keyed::WORDS[kind](case.inputs[input].len(), generator);
-                    set_words(&mut case, input, &words);
-                }
-                let bits = keyed::BITS[t](sizes.bit_bytes(), generator);
-                set_bytes(&mut case, T, &bits);
-                if (n + round) % 2 == 0 {
-                    each(case);
-                } else {
-                    each(balanced(case));
-                }
-            }
+const EXTREMES: Group = Group::new(keyed::EXTREMES, |generator, each| {
+    keyed::with_extremes(generator, &mut |sizes, turn, kinds, generator| {
+        let [key, t, q, sums] = kinds;
+        let mut case = of_sizes::<Verify>(sizes, generator);
+        let kinds = [
+            (H, key),
+            (X, key),
+            (T, t),
+            (Q, q),
+            (DELTA, Kind::EXTREMES[turn % 3]),
+            (MASKS, sums),
+            (ALPHA, Kind::EXTREMES[turn / 3 % 3]),
+            (A, Kind::EXTREMES[turn / 9 % 3]),
+        ];
+        fill(&mut case, &kinds, generator);
+        if turn % 2 == 0 {
+            each(case);
+        } else {
+            each(balanced(case));
         }
-    },
-};
+    });
+});
 
 /// An accepted case with the slices of a round: every third an honest proof,
 /// the others any numbers for which the equation holds.
@@ -397,74 +385,51 @@ fn accepted(round: &Round, generator: &mut Generator) -> Case {
     let Round { sizes, kinds, .. } = *round;
     if round.number % 3 == 2 {
         let mut sample = witnesses::of_round(round, generator);
-        sample.delta = rounds::challenge(round.number / 3 % 5, generator);
+        sample.delta = Kind::ALL[round.number / 3 % 5].challenge(generator);
         sample.make_honest();
         return honest(&sample, generator);
     }
     let [h, x, t, q, delta, alpha] = kinds;
-    let mut case = keyed::of_sizes::<Verify>(sizes, generator);
-    for (input, kind) in [
+    let mut case = of_sizes::<Verify>(sizes, generator);
+    let kinds = [
         (H, h),
         (X, x),
+        (T, t),
         (Q, q),
+        (DELTA, delta),
         (MASKS, q),
         (ALPHA, alpha),
         (A, delta),
-    ] {
-        let words = rounds::WORDS[kind](case.inputs[input].len(), generator);
-        set_words(&mut case, input, &words);
-    }
-    let t = rounds::bits(t, sizes.bit_bytes(), generator);
-    let delta = rounds::challenge(delta, generator);
-    set_bytes(&mut case, T, &t);
-    set_words(&mut case, DELTA, &delta);
+    ];
+    fill(&mut case, &kinds, generator);
     balanced(case)
 }
 
-/// An accepted case with the slices of a round, and in every fourth round the
-/// same with one bit changed, in each slice in turn.
-fn with_change(round: &Round, generator: &mut Generator, each: &mut dyn FnMut(Case)) {
-    let case = accepted(round, generator);
-    let input = round.number / 4 % case.inputs.len();
-    let len = case.inputs[input].len();
-    if round.number % 4 == 1 && len > 0 {
-        let index = generator.below(len);
-        let answer = answer_to_change(&case, input, index);
-        each(changed(&case, input, index, answer, generator));
+impl InRounds for Verify {
+    /// An accepted case, and in every fourth round the same with one bit
+    /// changed, in each slice in turn.
+    fn in_round(round: &Round, generator: &mut Generator, each: &mut dyn FnMut(Case)) {
+        let case = accepted(round, generator);
+        if round.number % 4 == 1 {
+            let names = case.inputs.names();
+            let input = names[round.number / 4 % names.len()];
+            let changed = with_any_change(&case, input, generator);
+            changed.into_iter().for_each(&mut *each);
+        }
+        each(case);
     }
-    each(case);
 }
 
-const LARGEST: Group = Group {
-    name: "n = 64, any m, words and challenges of all kinds",
-    cases: |generator, each| {
-        rounds::largest().for_each(|round| with_change(&round, generator, each));
-    },
-};
-
-const ABOVE_A_POWER: Group = Group {
-    name: "n just above a power of two, words and challenges of all kinds",
-    cases: |generator, each| {
-        rounds::above_a_power().for_each(|round| with_change(&round, generator, each));
-    },
-};
-
-const ALL_T: Group = Group {
-    name: "all t for n = 2, 3, 4",
-    cases: |generator, each| {
-        for n in 2..=4 {
-            for m in 1..n {
-                let sizes = keyed::sizes(n, m);
-                let case = honest(&sample(n, m, 0, generator), generator);
-                for t in keyed::all_lists(sizes.bit_bytes(), 2) {
-                    let mut case = case.clone();
-                    set_bytes(&mut case, T, &t);
-                    each(Case {
-                        answer: None,
-                        ..case
-                    });
-                }
+const ALL_T: Group = Group::new("all t for n = 2, 3, 4", |generator, each| {
+    for n in 2..=4 {
+        for m in 1..n {
+            let sizes = keyed::sizes(n, m);
+            let case = honest_at(sizes, Kind::Random, generator);
+            for t in keyed::all_lists(sizes.bit_bytes(), 2) {
+                let mut case = case.clone();
+                case.set_bytes(T, &t);
+                each(case.answering(None));
             }
         }
-    },
-};
+    }
+});

@@ -45,6 +45,13 @@ impl Kind {
     /// The kinds of challenges: random, zero and one.
     pub const CHALLENGES: [Kind; 3] = [Kind::Random, Kind::Zero, Kind::One];
 
+    /// The kind that comes this many places after this one among the extremes,
+    /// and from the first again after the last.
+    pub fn next_extreme(self, places: usize) -> Kind {
+        let place = Kind::EXTREMES.iter().position(|&kind| kind == self);
+        Kind::EXTREMES[(place.unwrap_or(0) + places) % 3]
+    }
+
     /// A word of this kind.
     fn word(self, generator: &mut Generator) -> u16 {
         match self {

@@ -37,6 +37,11 @@ pub enum Fault {
 }
 
 impl Fault {
+    /// A value of an element of the input with this name.
+    pub fn of_element(name: &'static str, place: usize, value: u16) -> Fault {
+        Fault::Element(name, slices::named(name).elements, place, value)
+    }
+
     /// The refusal that applies.
     fn refusal(self) -> Refusal {
         match self {
@@ -167,7 +172,7 @@ fn faults<E: Keyed>(sizes: Sizes, many: bool, generator: &mut Generator) -> Vec<
         }
         for place in [0, len - 1, generator.below(len)] {
             let values = values_above(slice.elements, sizes.d, many).into_iter();
-            let fault = |value| Fault::Element(slice.name, slice.elements, place, value);
+            let fault = |value| Fault::of_element(slice.name, place, value);
             list.extend(values.map(fault));
         }
     }
@@ -244,7 +249,7 @@ fn every_place<E: Keyed>() -> Group {
                 let values = values_above(slice.elements, sizes.d, true);
                 for place in 0..(slice.length)(sizes) {
                     let value = values[generator.below(values.len())];
-                    let fault = Fault::Element(slice.name, slice.elements, place, value);
+                    let fault = Fault::of_element(slice.name, place, value);
                     each(with_faults::<E>(&case, sizes.d, &[fault], generator));
                 }
             }

@@ -221,15 +221,15 @@ pub fn extremes(n: usize) -> Vec<[Kind; 4]> {
     }
 }
 
+/// Takes sizes, a number that goes on, and the kinds of four slices.
+pub type OfExtremes<'a> = dyn FnMut(Sizes, usize, [Kind; 4], &mut Generator) + 'a;
+
 /// The name of the groups with extremes.
 pub const EXTREMES: &str = "every n, words all 0 or 2047, bits all 0 or 1";
 
 /// Hands over sizes of every n, the lowest m, the highest or any in turn, with a
 /// number that goes on and the kinds of four slices.
-pub fn with_extremes(
-    generator: &mut Generator,
-    each: &mut dyn FnMut(Sizes, usize, [Kind; 4], &mut Generator),
-) {
+pub fn with_extremes(generator: &mut Generator, each: &mut OfExtremes<'_>) {
     for n in EVERY_N {
         for (round, kinds) in extremes(n).into_iter().enumerate() {
             let m = some_m(n, generator)[(n + round / 3) % 3];

@@ -367,8 +367,8 @@ const EXTREMES: Group = Group::new(keyed::EXTREMES, |generator, each| {
             (Q, q),
             (DELTA, Kind::EXTREMES[turn % 3]),
             (MASKS, sums),
-            (ALPHA, Kind::EXTREMES[turn / 3 % 3]),
-            (A, Kind::EXTREMES[turn / 9 % 3]),
+            (ALPHA, sums.next_extreme(turn / 3)),
+            (A, sums.next_extreme(turn / 9)),
         ];
         fill(&mut case, &kinds, generator);
         if turn % 2 == 0 {

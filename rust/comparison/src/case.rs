@@ -42,6 +42,7 @@ impl Taken {
 pub type Call = fn(&Taken, &mut Named<Lent>) -> u32;
 
 /// A public entry.
+#[derive(Clone, Copy)]
 pub struct Entry {
     /// The name in document 01.
     pub name: &'static str,

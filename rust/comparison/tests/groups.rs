@@ -205,7 +205,7 @@ fn the_list_of_an_entry_decides() {
     let generator = &mut Generator::new(1);
     let sizes = keyed::sizes(5, 2);
     let case = keyed::of_sizes::<LengthLast>(sizes, generator);
-    let position = faults::Fault::of_element("positions", 0, 255);
+    let position = faults::Fault::Element("positions", 0, 255);
     let number = faults::Fault::Number(N, 0);
     let length = faults::Fault::Length(H, 3);
     for (faults, refusal) in [

@@ -2,9 +2,7 @@
 //! library.
 
 use comparison::case::Entry;
-use comparison::entries::{
-    check, constraints, field, package_field, prove, readers, values, verify, ALL,
-};
+use comparison::entries::{check, constraints, field, package_field, prove, readers, values, ALL};
 use comparison::run::Run;
 use comparison::vectors::{compare, directory, names, Outcome, Setting};
 use reference::samples::Generator;
@@ -227,20 +225,10 @@ fn other_lines() {
     assert!(difference(name, &content.replace("\nline ", "\nlines ")).is_some());
 }
 
-/// The entries that the vectors call.
+/// The entries that the vectors call: those of document 01, and check.
 fn entries() -> Vec<Entry> {
-    vec![
-        field::SUM,
-        field::PRODUCT,
-        constraints::CONSTRAINTS,
-        prove::PROVE,
-        values::VALUES,
-        verify::VERIFY,
-        readers::READ_PACKAGE,
-        readers::READ_CHECK_FILE,
-        package_field::FIELD,
-        check::CHECK,
-    ]
+    let last = ALL.iter().position(|entry| entry.name == check::CHECK.name);
+    ALL[..=last.expect("an entry")].to_vec()
 }
 
 /// Whether the vectors pass with these entries.

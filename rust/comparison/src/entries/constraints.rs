@@ -1,7 +1,7 @@
 //! The entry constraints.
 
 use super::faults::fault_groups;
-use super::keyed::{self, fill, of_sample, set_key, Keyed};
+use super::keyed::{self, after_key, fill, of_sample, set_key, Keyed};
 use super::rounds::{self, InRounds, Round};
 use super::witnesses::{self, two_indices};
 use super::{number, stated, stated_element, DONE};
@@ -21,15 +21,7 @@ pub struct Constraints;
 impl Keyed for Constraints {
     const READS: &'static [&'static str] = &[POSITIONS, U, V];
     const WRITES: &'static [&'static str] = &[T, POLYNOMIALS];
-    const REFUSALS: &'static [Refusal] = &[
-        Refusal::SizeN,
-        Refusal::SizeM,
-        Refusal::SliceLength,
-        Refusal::KeyElement,
-        Refusal::Bit,
-        Refusal::Coordinate,
-        Refusal::Position,
-    ];
+    const REFUSALS: &'static [Refusal] = after_key!(Bit, Coordinate, Position);
 }
 
 /// An implementation of constraints.

@@ -31,24 +31,18 @@ pub enum Fault {
     Number(&'static str, usize),
     /// The slice with this name has this length.
     Length(&'static str, usize),
-    /// The input with this name and these elements has, in this place, this
-    /// value.
-    Element(&'static str, Elements, usize, u16),
+    /// The input with this name has, in this place, this value.
+    Element(&'static str, usize, u16),
 }
 
 impl Fault {
-    /// A value of an element of the input with this name.
-    pub fn of_element(name: &'static str, place: usize, value: u16) -> Fault {
-        Fault::Element(name, slices::named(name).elements, place, value)
-    }
-
     /// The refusal that applies.
     fn refusal(self) -> Refusal {
         match self {
             Fault::Number(M, _) => Refusal::SizeM,
             Fault::Number(..) => Refusal::SizeN,
             Fault::Length(..) => Refusal::SliceLength,
-            Fault::Element(_, elements, ..) => elements.refusal(),
+            Fault::Element(name, ..) => slices::named(name).elements.refusal(),
         }
     }
 
@@ -72,7 +66,7 @@ impl Fault {
                     slice.of_length(len, Kind::Random, d, generator)
                 };
             }
-            Fault::Element(name, _, place, value) => {
+            Fault::Element(name, place, value) => {
                 let input = &mut case.inputs[name];
                 if !input.is_empty() {
                     input.set(place.min(input.len() - 1), value);
@@ -172,7 +166,7 @@ fn faults<E: Keyed>(sizes: Sizes, many: bool, generator: &mut Generator) -> Vec<
         }
         for place in [0, len - 1, generator.below(len)] {
             let values = values_above(slice.elements, sizes.d, many).into_iter();
-            let fault = |value| Fault::of_element(slice.name, place, value);
+            let fault = |value| Fault::Element(slice.name, place, value);
             list.extend(values.map(fault));
         }
     }
@@ -249,7 +243,7 @@ fn every_place<E: Keyed>() -> Group {
                 let values = values_above(slice.elements, sizes.d, true);
                 for place in 0..(slice.length)(sizes) {
                     let value = values[generator.below(values.len())];
-                    let fault = Fault::of_element(slice.name, place, value);
+                    let fault = Fault::Element(slice.name, place, value);
                     each(with_faults::<E>(&case, sizes.d, &[fault], generator));
                 }
             }

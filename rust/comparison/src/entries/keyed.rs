@@ -57,17 +57,28 @@ pub const ENTRY: Entry = Entry {
     least: &[],
 };
 
-/// The refusals that are decided before the rows of H could be judged.
-const BEFORE_ROWS: [Refusal; 4] = [
-    Refusal::SizeN,
-    Refusal::SizeM,
-    Refusal::SliceLength,
-    Refusal::KeyElement,
-];
+/// The refusals of an entry in the order in which they are decided: those of a
+/// key that isn't well formed, then its own.
+macro_rules! after_key {
+    ($($own:ident),*) => {
+        &[
+            Refusal::SizeN,
+            Refusal::SizeM,
+            Refusal::SliceLength,
+            Refusal::KeyElement,
+            $(Refusal::$own),*
+        ]
+    };
+}
 
-/// n and H of a call whose answer is none of those before.
+pub(super) use after_key;
+
+/// The refusals that are decided before the rows of H could be judged.
+const OF_KEY: &[Refusal] = after_key!();
+
+/// n and H of a call whose answer is none of these.
 fn rows_of_key(taken: &Taken, answer: u32) -> Option<(usize, Vec<u16>)> {
-    let before = BEFORE_ROWS.iter().any(|refusal| refusal.number() == answer);
+    let before = OF_KEY.iter().any(|refusal| refusal.number() == answer);
     let key = taken.key();
     (!before).then(|| (key.n, key.h.to_vec()))
 }

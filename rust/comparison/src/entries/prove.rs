@@ -1,7 +1,7 @@
 //! The entry prove.
 
 use super::faults::{fault_groups, one_fault};
-use super::keyed::{self, of_sample, Keyed};
+use super::keyed::{self, after_key, of_sample, Keyed};
 use super::lengths::empty_slices;
 use super::rounds::{self, InRounds, Round};
 use super::witnesses::{self, spare_code, two_indices, OnWitness, Witness};
@@ -23,16 +23,7 @@ pub struct Prove;
 impl Keyed for Prove {
     const READS: &'static [&'static str] = &[POSITIONS, U, V, R, S, ALPHA];
     const WRITES: &'static [&'static str] = &[T, A];
-    const REFUSALS: &'static [Refusal] = &[
-        Refusal::SizeN,
-        Refusal::SizeM,
-        Refusal::SliceLength,
-        Refusal::KeyElement,
-        Refusal::Bit,
-        Refusal::Coordinate,
-        Refusal::Position,
-        Refusal::TopCoefficient,
-    ];
+    const REFUSALS: &'static [Refusal] = after_key!(Bit, Coordinate, Position, TopCoefficient);
 
     fn right(sizes: Sizes, generator: &mut Generator) -> Case {
         let sample = Sample::solving(sizes.n, sizes.m, generator);

@@ -1,7 +1,7 @@
 //! The entry values.
 
 use super::faults::fault_groups;
-use super::keyed::{self, fill, of_sample, set_key, Keyed};
+use super::keyed::{self, after_key, fill, of_sample, set_key, Keyed};
 use super::rounds::{self, InRounds, Round};
 use super::{number, stated_element, DONE};
 use crate::case::{Case, Entry, Group, Taken};
@@ -21,14 +21,7 @@ pub struct Values;
 impl Keyed for Values {
     const READS: &'static [&'static str] = &[T, Q, DELTA];
     const WRITES: &'static [&'static str] = &[OUT];
-    const REFUSALS: &'static [Refusal] = &[
-        Refusal::SizeN,
-        Refusal::SizeM,
-        Refusal::SliceLength,
-        Refusal::KeyElement,
-        Refusal::Bit,
-        Refusal::Coordinate,
-    ];
+    const REFUSALS: &'static [Refusal] = after_key!(Bit, Coordinate);
 }
 
 /// An implementation of values.

@@ -1,7 +1,11 @@
 //! The entry verify.
+//!
+//! - `changes`: accepted cases with one element changed.
+
+mod changes;
 
 use super::faults::fault_groups;
-use super::keyed::{self, bits_of, changed, fill, of_sample, of_sizes, sizes_of, Keyed};
+use super::keyed::{self, after_key, fill, of_sample, of_sizes, sizes_of, Keyed};
 use super::rounds::{self, InRounds, Round};
 use super::witnesses;
 use super::{DONE, REJECTED};
@@ -10,9 +14,10 @@ use crate::kinds::Kind;
 use crate::lent::Lent;
 use crate::library;
 use crate::slices::{A, ALPHA, DELTA, H, MASKS, Q, T, X};
+use changes::{with_any_change, with_bit_changed};
 use reference::key::{elements_of_k, Sizes};
 use reference::large_field::{COORDINATES, K};
-use reference::samples::{independent, Generator, Sample};
+use reference::samples::{Generator, Sample};
 use reference::{Key, Refusal, Verdict};
 
 /// The slices and the refusals of verify.
@@ -21,14 +26,7 @@ pub struct Verify;
 impl Keyed for Verify {
     const READS: &'static [&'static str] = &[T, Q, DELTA, MASKS, ALPHA, A];
     const WRITES: &'static [&'static str] = &[];
-    const REFUSALS: &'static [Refusal] = &[
-        Refusal::SizeN,
-        Refusal::SizeM,
-        Refusal::SliceLength,
-        Refusal::KeyElement,
-        Refusal::Bit,
-        Refusal::Coordinate,
-    ];
+    const REFUSALS: &'static [Refusal] = after_key!(Bit, Coordinate);
 
     /// About every other case is accepted.
     fn right(sizes: Sizes, generator: &mut Generator) -> Case {
@@ -73,14 +71,14 @@ pub const VERIFY: Entry = Entry {
         let own = vec![
             EXAMPLES,
             HONEST,
-            CHANGED,
-            EVERY_BIT,
+            changes::CHANGED,
+            changes::EVERY_BIT,
             ZEROS,
-            CHALLENGE_ZERO,
+            changes::CHALLENGE_ZERO,
             ANY_NUMBERS,
             SMALL_N,
             EXTREMES,
-            ALL_T,
+            changes::ALL_T,
         ];
         let rounds = rounds::groups::<Verify>();
         [own, rounds, fault_groups::<Verify>()].concat()
@@ -141,49 +139,6 @@ fn balanced(mut case: Case) -> Case {
     case.answering(Some(DONE))
 }
 
-/// The answer to an accepted case with another element of this input, where it
-/// is known without the reference: K has no zero divisors, so a change of a or
-/// of a mask number is seen, unless the challenge is zero and the power isn't.
-fn answer_to_change(case: &Case, input: &str, index: usize) -> Option<u32> {
-    if input != A && input != MASKS {
-        return None;
-    }
-    let zero = elements(&case.inputs[DELTA])[0] == K::ZERO;
-    Some(if zero && index >= COORDINATES {
-        DONE
-    } else {
-        REJECTED
-    })
-}
-
-/// Whether the rows of H do not depend on each other.
-fn has_independent_rows(case: &Case) -> bool {
-    let key = case.key();
-    independent(key.h, key.n)
-}
-
-/// The accepted case with one bit changed in this element of an input. The rows
-/// of H do not depend on each other afterwards.
-fn with_bit_changed(case: &Case, input: &str, index: usize, generator: &mut Generator) -> Case {
-    loop {
-        let bit = generator.below(bits_of(input));
-        let changed = changed(case, input, index, bit);
-        if input != H || has_independent_rows(&changed) {
-            return changed.answering(answer_to_change(case, input, index));
-        }
-    }
-}
-
-/// The accepted case with one bit changed in any element of an input; none when
-/// the input is empty.
-fn with_any_change(case: &Case, input: &str, generator: &mut Generator) -> Option<Case> {
-    let len = case.inputs[input].len();
-    (len > 0).then(|| {
-        let index = generator.below(len);
-        with_bit_changed(case, input, index, generator)
-    })
-}
-
 const EXAMPLES: Group = Group::new("examples of document 01", |generator, each| {
     for (word, answer) in [(5, DONE), (4, REJECTED)] {
         let mut case = of_sample::<Verify>(&Sample::key_a(), generator);
@@ -201,68 +156,6 @@ const HONEST: Group = Group::new(
         keyed::every_size(generator, &mut |sizes, turn, generator| {
             each(honest_at(sizes, Kind::CHALLENGES[turn % 3], generator));
         });
-    },
-);
-
-const CHANGED: Group = Group::new(
-    "every n, one bit of an honest proof changed, in each slice",
-    |generator, each| {
-        for n in keyed::EVERY_N {
-            let m = keyed::some_m(n, generator)[n % 3];
-            let case = honest_at(keyed::sizes(n, m), Kind::Random, generator);
-            for (turn, input) in case.inputs.names().into_iter().enumerate() {
-                if n <= keyed::ALL_VARIANTS || (n + turn) % 4 == 0 {
-                    with_any_change(&case, input, generator)
-                        .into_iter()
-                        .for_each(&mut *each);
-                }
-            }
-        }
-    },
-);
-
-/// Every element of every input with each of its bits.
-fn all_bits(case: &Case) -> Vec<(&'static str, usize, usize)> {
-    let mut list = Vec::new();
-    for (input, lent) in case.inputs.iter() {
-        for index in 0..lent.len() {
-            list.extend((0..bits_of(input)).map(|bit| (input, index, bit)));
-        }
-    }
-    list
-}
-
-/// An honest proof of these sizes. Whatever bit of H is changed, the rows do not
-/// depend on each other.
-fn honest_with_bits(n: usize, m: usize, generator: &mut Generator) -> Case {
-    loop {
-        let case = honest_at(keyed::sizes(n, m), Kind::Random, generator);
-        let bits = all_bits(&case)
-            .into_iter()
-            .filter(|&(input, ..)| input == H);
-        let mut others = bits.map(|(input, index, bit)| changed(&case, input, index, bit));
-        if others.all(|other| has_independent_rows(&other)) {
-            return case;
-        }
-    }
-}
-
-const EVERY_BIT: Group = Group::new(
-    "every bit of an honest proof changed, for n = 2, 3; every word for n = 5",
-    |generator, each| {
-        for (n, m) in [(2, 1), (3, 2), (5, 2)] {
-            let honest = honest_with_bits(n, m, generator);
-            let mut only = 0;
-            for (input, index, bit) in all_bits(&honest) {
-                if bit == 0 {
-                    only = generator.below(bits_of(input));
-                }
-                if n < 5 || bit == only {
-                    let case = changed(&honest, input, index, bit);
-                    each(case.answering(answer_to_change(&honest, input, index)));
-                }
-            }
-        }
     },
 );
 
@@ -307,20 +200,6 @@ fn with_zeros(n: usize, m: usize, set: usize, generator: &mut Generator) -> Case
     }
     case
 }
-
-const CHALLENGE_ZERO: Group = Group::new(
-    "challenge zero, each word of a and of the mask numbers changed",
-    |generator, each| {
-        for (n, m) in [(2, 1), (3, 1), (5, 2), (9, 4)] {
-            let case = honest_at(keyed::sizes(n, m), Kind::Zero, generator);
-            for input in [MASKS, A] {
-                for index in 0..case.inputs[input].len() {
-                    each(with_bit_changed(&case, input, index, generator));
-                }
-            }
-        }
-    },
-);
 
 const ANY_NUMBERS: Group = Group::new(
     "every n, any numbers for which the equation holds, and a changed",
@@ -419,17 +298,3 @@ impl InRounds for Verify {
         each(case);
     }
 }
-
-const ALL_T: Group = Group::new("all t for n = 2, 3, 4", |generator, each| {
-    for n in 2..=4 {
-        for m in 1..n {
-            let sizes = keyed::sizes(n, m);
-            let case = honest_at(sizes, Kind::Random, generator);
-            for t in keyed::all_lists(sizes.bit_bytes(), 2) {
-                let mut case = case.clone();
-                case.set_bytes(T, &t);
-                each(case.answering(None));
-            }
-        }
-    }
-});

@@ -55,6 +55,8 @@ pub struct Group {
     pub name: &'static str,
     /// Hands over the files, one after another.
     pub files: fn(&mut Generator, &mut Each),
+    /// Whether rows of H may depend on each other.
+    pub any_rows: bool,
 }
 
 /// The groups of files.
@@ -67,6 +69,7 @@ fn closed(bytes: Vec<u8>) -> File {
 
 const HONEST: Group = Group {
     name: "n to 32 and larger, honest files with any serial",
+    any_rows: false,
     files: |generator, each| {
         for n in (2..=32).chain([33, 39, 40, 64]) {
             let m = keyed::some_m(n, generator)[n % 3];
@@ -82,6 +85,7 @@ const HONEST: Group = Group {
 
 const CHANGED: Group = Group {
     name: "n to 12, one bit changed in each field, no refusal",
+    any_rows: false,
     files: |generator, each| {
         for n in 2..=12 {
             let m = 1 + generator.below(n - 1);
@@ -96,6 +100,7 @@ const CHANGED: Group = Group {
 
 const PREFIXES: Group = Group {
     name: "every prefix of a file, n = 2",
+    any_rows: false,
     files: |generator, each| {
         let bytes = join(&honest(2, 1, Kind::Random, generator));
         for len in 0..bytes.len() {
@@ -106,6 +111,7 @@ const PREFIXES: Group = Group {
 
 const FAULTS: Group = Group {
     name: "one fault at each place of each field",
+    any_rows: false,
     files: |generator, each| {
         for (n, m) in [(2, 1), (3, 2), (6, 3), (64, 63)] {
             let fields = honest(n, m, Kind::Random, generator);
@@ -119,6 +125,7 @@ const FAULTS: Group = Group {
 
 const DAMAGED: Group = Group {
     name: "damaged files",
+    any_rows: true,
     files: |generator, each| {
         let pool = Pool::new::<Check>(generator);
         for _ in 0..1_000 {
@@ -130,6 +137,7 @@ const DAMAGED: Group = Group {
 
 const LENGTHS: Group = Group {
     name: "lengths about the limit, the pipe closed or left open",
+    any_rows: false,
     files: |generator, each| {
         for n in [2, 5, 64] {
             let bytes = join(&honest(n, n - 1, Kind::Random, generator));

@@ -5,8 +5,7 @@
 //! - [`files`]: what the entries that take the bytes of a file have in common;
 //! - the others: one entry, or a few of one form.
 
-use crate::case::Entry;
-use crate::case::Stated;
+use crate::case::{Entry, Stated};
 use reference::large_field::COORDINATES;
 use reference::Refusal;
 

@@ -65,11 +65,6 @@ pub const FIELD: Entry = Entry {
         *outputs[LENGTH].size_mut() = range.len();
         copied(bytes, outputs)
     },
-    rows: Some(|taken, _| {
-        let bytes = taken.bytes(BYTES);
-        let read = reference::read_package(bytes);
-        read.is_ok().then(|| files::rows_of_fields(bytes))
-    }),
     table: Some(Table {
         of: "package",
         columns,

@@ -15,6 +15,9 @@ use std::collections::HashSet;
 use std::hash::{DefaultHasher, Hash, Hasher};
 use tally::{answer_faults, answers, table_lines, Cells, OfSizes, Tally};
 
+/// A fault of a case.
+const DEPENDENT: &str = "rows of H depend on each other";
+
 /// A run over all entries.
 pub struct Run {
     seed: u64,
@@ -78,11 +81,26 @@ impl Run {
         }
     }
 
+    /// Whether rows of H depend on each other. Each H is judged once.
+    fn dependent(&mut self, n: usize, h: &[u16]) -> bool {
+        let mut hasher = DefaultHasher::new();
+        (n, h).hash(&mut hasher);
+        let hash = hasher.finish();
+        if self.independent.contains(&hash) {
+            return false;
+        }
+        let dependent = !independent(h, n);
+        if !dependent {
+            self.independent.insert(hash);
+        }
+        dependent
+    }
+
     /// What is wrong with the rows of H of a case with this answer: every key
     /// that no refusal of its sizes, slices and elements applies to must have
     /// rows that do not depend on each other, in all groups but those that say
-    /// otherwise. Each H is judged once.
-    fn dependent_rows(
+    /// otherwise.
+    fn fault_of_rows(
         &mut self,
         entry: &Entry,
         group: &Group,
@@ -91,17 +109,8 @@ impl Run {
     ) -> Option<String> {
         let find = entry.rows.filter(|_| !group.any_rows)?;
         let (n, h) = find(&case.taken, answer)?;
-        let mut hasher = DefaultHasher::new();
-        (n, &h).hash(&mut hasher);
-        let hash = hasher.finish();
-        if self.independent.contains(&hash) {
-            return None;
-        }
-        if !independent(&h, n) {
-            return Some("rows of H depend on each other".to_string());
-        }
-        self.independent.insert(hash);
-        None
+        let dependent = self.dependent(n, &h);
+        dependent.then(|| DEPENDENT.to_string())
     }
 
     /// Calls the library and the expected side with one case, and alters a word
@@ -129,7 +138,7 @@ impl Run {
         }
 
         let fault = expected_fault(case, &expected)
-            .or_else(|| self.dependent_rows(entry, group, case, expected.answer));
+            .or_else(|| self.fault_of_rows(entry, group, case, expected.answer));
         if fault.is_some() {
             return (found.answer, fault);
         }

@@ -1,8 +1,9 @@
 //! The program perkcheck and the test vectors.
 
 use super::tally::answers;
-use super::{generator_of, Run};
+use super::{generator_of, Run, DEPENDENT};
 use crate::case::Entry;
+use crate::entries::files::rows_of_bytes;
 use crate::program;
 use crate::vectors::{self, Outcome, Setting};
 use std::collections::BTreeMap;
@@ -44,11 +45,15 @@ impl Run {
     fn program_group(&mut self, path: &Path, group: &program::Group) -> Lines {
         let mut tally = Lines::new();
         let mut differences = 0;
+        let mut dependent = 0;
         let mut files = 0;
         let mut generator = generator_of(self.seed, program::NAME, group.name);
         (group.files)(&mut generator, &mut |generator, file| {
             let mut expected = reference::perkcheck_line(&file.bytes);
             *tally.entry(program::kind(&expected)).or_default() += 1;
+            if let Some((n, h)) = rows_of_bytes(&file.bytes).filter(|_| !group.any_rows) {
+                dependent += usize::from(self.dependent(n, &h));
+            }
             let spoiled = self.spoil.is_some() && files == 0;
             if spoiled {
                 expected.insert(0, ' ');
@@ -77,6 +82,9 @@ impl Run {
         let mut faults = Vec::new();
         if differences > 0 || files == 0 {
             faults.push(format!("{differences} differences"));
+        }
+        if dependent > 0 {
+            faults.push(format!("{dependent} times {DEPENDENT}"));
         }
         let text = format!(
             "{}, {}: {files} files, lines {}",

@@ -128,13 +128,15 @@ pub fn content_mut(fields: &mut [WrittenField], tag: u8) -> &mut Vec<u8> {
     &mut fields[index].content
 }
 
-/// The fields of the bytes of a right file.
+/// The fields of the bytes of a file, up to one that is cut.
 pub fn walked(bytes: &[u8]) -> Vec<WrittenField> {
     let mut fields = Vec::new();
     let mut rest = bytes;
     while let &[tag, high, low, ref after @ ..] = rest {
         let length = usize::from(u16::from_be_bytes([high, low]));
-        let (content, next) = after.split_at(length);
+        let Some((content, next)) = after.split_at_checked(length) else {
+            break;
+        };
         fields.push(WrittenField::new(tag, content.to_vec()));
         rest = next;
     }

@@ -7,7 +7,7 @@ use super::{case, File, Reader};
 use crate::case::{decided, Case, Group};
 use crate::entries::{keyed, DONE};
 use crate::lent::Lent;
-use reference::package::{join, tag, WrittenField, CHECK_FILE_TAGS};
+use reference::package::{join, tag, WrittenField};
 use reference::samples::Generator;
 use reference::Refusal;
 
@@ -58,21 +58,34 @@ pub const fn every_n<R: Reader>() -> Group {
 /// The sizes of longer files of which every prefix is taken.
 const LONG: &[(usize, usize)] = &[(17, 8), (33, 12), (64, 63)];
 
-/// Every shorter part of some files, followed in the memory by anything or by
-/// what was cut.
+/// Every shorter part of a file, followed in the memory by what was cut, and in
+/// a small file also by anything.
+fn prefixes_of<R: Reader>(
+    bytes: &[u8],
+    small: bool,
+    generator: &mut Generator,
+    each: &mut dyn FnMut(Case),
+) {
+    for len in 0..bytes.len() {
+        let (part, next) = bytes.split_at(len);
+        if small {
+            each(case::<R>(part, Some(MISSING), generator));
+        }
+        let lent = Lent::with_bytes_before(part, next, generator);
+        each(R::case(lent, Some(MISSING), generator));
+    }
+}
+
+/// Every shorter part of some files.
 pub const fn prefixes<R: Reader>() -> Group {
     Group::new("every prefix", |generator, each| {
-        for (&(n, m), long) in (R::SMALL.iter().zip([false; 8])).chain(LONG.iter().zip([true; 3])) {
-            let fields = if long { any_fields } else { R::fields };
-            let bytes = file::<R>(&fields(n, m, generator));
-            for len in 0..bytes.len() {
-                let (part, next) = bytes.split_at(len);
-                if !long {
-                    each(case::<R>(part, Some(MISSING), generator));
-                }
-                let lent = Lent::with_bytes_before(part, next, generator);
-                each(R::case(lent, Some(MISSING), generator));
-            }
+        for &(n, m) in R::SMALL {
+            let bytes = file::<R>(&R::fields(n, m, generator));
+            prefixes_of::<R>(&bytes, true, generator, each);
+        }
+        for &(n, m) in LONG {
+            let bytes = file::<R>(&any_fields(n, m, generator));
+            prefixes_of::<R>(&bytes, false, generator, each);
         }
     })
 }
@@ -271,7 +284,7 @@ fn after_each_field<R: Reader>(generator: &mut Generator, each: &mut dyn FnMut(C
             let end = index == fields.len();
             let answer = if end { FOLLOW } else { MISSING };
             for len in [1, 2] {
-                let tag = CHECK_FILE_TAGS.get(index).map_or(0, |tag| tag ^ 0x80);
+                let tag = all.get(index).map_or(0, |field| field.tag ^ 0x80);
                 let bytes = [&start[..], &[tag, 0][..len]].concat();
                 each(case::<R>(&bytes, Some(answer), generator));
             }

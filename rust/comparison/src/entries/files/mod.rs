@@ -106,15 +106,23 @@ pub fn case<R: Reader>(bytes: &[u8], answer: Option<u32>, generator: &mut Genera
     R::case(Lent::with_bytes(bytes, generator), answer, generator)
 }
 
-/// n and H of a file that is read.
-pub fn rows_of_file(taken: &Taken, answer: u32) -> Option<(usize, Vec<u16>)> {
-    let refused = REFUSALS.iter().any(|refusal| refusal.number() == answer);
-    (!refused).then(|| rows_of_fields(taken.bytes(BYTES)))
+/// The tags of the fields that are judged before the rows of H.
+const OF_KEY: [u8; 3] = [tag::SIZES, tag::H, tag::X];
+
+/// n and H of the bytes of a file; none where the fields of the key aren't
+/// right. The reader of check files judges those of packages alike.
+pub fn rows_of_bytes(bytes: &[u8]) -> Option<(usize, Vec<u16>)> {
+    let judged = reference::judge_check_file(bytes);
+    let refused = judged.err().and_then(|refused| refused.tag);
+    let key_refused = refused.is_some_and(|tag| OF_KEY.contains(&tag));
+    (!key_refused).then(|| {
+        let fields = walked(bytes);
+        let n = content_of(&fields, tag::SIZES)[0];
+        (n.into(), words(content_of(&fields, tag::H)))
+    })
 }
 
-/// n and H of the bytes of a right file.
-pub fn rows_of_fields(bytes: &[u8]) -> (usize, Vec<u16>) {
-    let fields = walked(bytes);
-    let n = content_of(&fields, tag::SIZES)[0];
-    (n.into(), words(content_of(&fields, tag::H)))
+/// n and H of what an entry that reads a file takes.
+pub fn rows_of_file(taken: &Taken, _: u32) -> Option<(usize, Vec<u16>)> {
+    rows_of_bytes(taken.bytes(BYTES))
 }

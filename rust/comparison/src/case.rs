@@ -63,7 +63,7 @@ pub struct Entry {
     /// The groups of cases.
     pub groups: fn() -> Vec<Group>,
     /// How many cases of some groups reach an answer, at least.
-    pub least: &'static [Least],
+    pub least: fn() -> Vec<Least>,
 }
 
 /// n and H of a call with this answer; none where a refusal of the sizes, the
@@ -72,14 +72,14 @@ pub type FindRows = fn(&Taken, u32) -> Option<(usize, Vec<u16>)>;
 
 /// The least number of cases of a group, for each of these sizes, that reach an
 /// answer.
-#[derive(Clone, Copy)]
+#[derive(Clone)]
 pub struct Least {
     /// The name of the group.
     pub group: &'static str,
     /// The sizes n.
-    pub n: &'static [usize],
+    pub n: Vec<usize>,
     /// The sizes m for each n; with none all m are counted together.
-    pub m: &'static [usize],
+    pub m: Vec<usize>,
     /// The answer.
     pub answer: u32,
     /// The number of cases.

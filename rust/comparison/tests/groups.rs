@@ -27,54 +27,56 @@ fn group_without_a_case() {
     assert!(!passes(&entry(right, || vec![ALL, EMPTY]), None));
 }
 
-/// The entry with the numbers n and m, and a least number of cases.
-fn with_least(
-    group: &'static str,
-    n: &'static [usize],
-    m: &'static [usize],
-    answer: u32,
-    count: usize,
-) -> Entry {
-    const NUMBERED: Group = Group::new("numbered", |generator, each| {
-        for (n, m, input, answer) in [(64, 1, 0, 0), (64, 2, 1, 0), (33, 1, 1, 0), (64, 1, 2, 5)] {
-            let mut case = case(generator, &[input], 1, answer);
-            case.numbers = Named::from([(N, n), (M, m)]);
-            each(case);
-        }
-    });
-    let least = Least {
-        group,
-        n,
-        m,
-        answer,
-        count,
-    };
-    Entry {
-        least: Box::leak(Box::new([least])),
-        ..entry(right, || vec![ALL, NUMBERED])
+/// Cases with the numbers n and m.
+const NUMBERED: Group = Group::new("numbered", |generator, each| {
+    for (n, m, input, answer) in [(64, 1, 0, 0), (64, 2, 1, 0), (33, 1, 1, 0), (64, 1, 2, 5)] {
+        let mut case = case(generator, &[input], 1, answer);
+        case.numbers = Named::from([(N, n), (M, m)]);
+        each(case);
     }
+});
+
+/// Whether a run passes in which so many cases of a group with each n and m must
+/// reach an answer.
+macro_rules! passes_with {
+    ($group:expr, $n:expr, $m:expr, $answer:expr, $count:expr) => {
+        passes(
+            &Entry {
+                least: || {
+                    let least = Least {
+                        group: $group,
+                        n: $n.to_vec(),
+                        m: $m.to_vec(),
+                        answer: $answer,
+                        count: $count,
+                    };
+                    vec![least]
+                },
+                ..entry(right, || vec![ALL, NUMBERED])
+            },
+            None,
+        )
+    };
 }
 
 #[test]
 fn too_few_cases_of_one_size() {
-    let passes = |entry: Entry| passes(&entry, None);
-    assert!(passes(with_least("numbered", &[64], &[], 0, 2)));
-    assert!(passes(with_least("numbered", &[64], &[], 5, 1)));
-    assert!(passes(with_least("numbered", &[64, 33], &[], 0, 1)));
-    assert!(!passes(with_least("numbered", &[64], &[], 0, 3)));
-    assert!(!passes(with_least("numbered", &[64, 33], &[], 0, 2)));
-    assert!(!passes(with_least("numbered", &[33], &[], 5, 1)));
-    assert!(!passes(with_least("others", &[64], &[], 0, 0)));
+    assert!(passes_with!("numbered", [64], [], 0, 2));
+    assert!(passes_with!("numbered", [64], [], 5, 1));
+    assert!(passes_with!("numbered", [64, 33], [], 0, 1));
+    assert!(!passes_with!("numbered", [64], [], 0, 3));
+    assert!(!passes_with!("numbered", [64, 33], [], 0, 2));
+    assert!(!passes_with!("numbered", [33], [], 5, 1));
+    assert!(!passes_with!("others", [64], [], 0, 0));
 }
 
 #[test]
 fn too_few_cases_of_one_n_and_m() {
-    let passes = |entry: Entry| passes(&entry, None);
-    assert!(passes(with_least("numbered", &[64], &[1, 2], 0, 1)));
-    assert!(!passes(with_least("numbered", &[64], &[1, 2], 0, 2)));
-    assert!(!passes(with_least("numbered", &[64], &[3], 0, 1)));
-    assert!(passes(with_least("numbered", &[64, 33], &[1], 0, 1)));
-    assert!(!passes(with_least("numbered", &[64, 33], &[2], 0, 1)));
+    assert!(passes_with!("numbered", [64], [1, 2], 0, 1));
+    assert!(!passes_with!("numbered", [64], [1, 2], 0, 2));
+    assert!(!passes_with!("numbered", [64], [3], 0, 1));
+    assert!(passes_with!("numbered", [64, 33], [1], 0, 1));
+    assert!(!passes_with!("numbered", [64, 33], [2], 0, 1));
 }
 
 #[test]
@@ -154,7 +156,7 @@ fn with_equal_rows(generator: &mut Generator) -> Case {
 fn constraints_with(groups: fn() -> Vec<Group>) -> Entry {
     Entry {
         refusals: &[],
-        least: &[],
+        least: Vec::new,
         groups,
         ..constraints::CONSTRAINTS
     }

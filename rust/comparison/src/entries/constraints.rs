@@ -59,7 +59,7 @@ pub const CONSTRAINTS: Entry = Entry {
         let rounds = rounds::groups::<Constraints>();
         [own, rounds, fault_groups::<Constraints>()].concat()
     },
-    least: rounds::LEAST,
+    least: rounds::least,
     ..keyed::ENTRY
 };
 

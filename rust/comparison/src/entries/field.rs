@@ -54,7 +54,7 @@ const ENTRY: Entry = Entry {
     rows: None,
     table: None,
     groups: || GROUPS.to_vec(),
-    least: &[],
+    least: Vec::new,
 };
 
 /// No entry yet.

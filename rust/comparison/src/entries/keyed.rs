@@ -54,7 +54,7 @@ pub const ENTRY: Entry = Entry {
     rows: Some(rows_of_key),
     table: None,
     groups: Vec::new,
-    least: &[],
+    least: Vec::new,
 };
 
 /// The refusals of an entry in the order in which they are decided: those of a
@@ -142,8 +142,15 @@ fn with_inputs<E: Keyed>(
 /// A case with slices of the lengths of these sizes and random content, which
 /// neither 3 nor a later refusal applies to.
 pub fn of_sizes<E: Keyed>(sizes: Sizes, generator: &mut Generator) -> Case {
+    of_kinds::<E>(sizes, &[], generator)
+}
+
+/// The same, where some inputs hold what their kinds say.
+pub fn of_kinds<E: Keyed>(sizes: Sizes, kinds: &[(&str, Kind)], generator: &mut Generator) -> Case {
     with_inputs::<E>(sizes, generator, |slice, generator| {
-        slice.of_kind(Kind::Random, sizes, generator)
+        let kind = kinds.iter().find(|(name, _)| *name == slice.name);
+        let kind = kind.map_or(Kind::Random, |&(_, kind)| kind);
+        slice.of_kind(kind, sizes, generator)
     })
 }
 
@@ -176,7 +183,7 @@ fn from_sample(sample: &Sample, name: &str, generator: &mut Generator) -> Option
 }
 
 /// Fills inputs with what their kinds say.
-pub fn fill(case: &mut Case, kinds: &[(&'static str, Kind)], generator: &mut Generator) {
+pub fn fill(case: &mut Case, kinds: &[(&str, Kind)], generator: &mut Generator) {
     let sizes = sizes_of(case);
     for &(name, kind) in kinds {
         case.inputs[name] = slices::named(name).of_kind(kind, sizes, generator);

@@ -94,25 +94,17 @@ pub const PROVE: Entry = Entry {
         let rounds = rounds::groups::<Prove>();
         [own, rounds, fault_groups::<Prove>()].concat()
     },
-    least: &LEAST,
+    least: || {
+        let unsolved = Least {
+            group: UNSOLVED.name,
+            n: UNSOLVED_N.to_vec(),
+            m: Vec::new(),
+            answer: TOP,
+            count: 12,
+        };
+        [rounds::least(), vec![unsolved]].concat()
+    },
     ..keyed::ENTRY
-};
-
-/// The groups of rounds, and one without a solving order.
-const LEAST: [Least; rounds::LEAST.len() + 1] = {
-    let mut list = [Least {
-        group: UNSOLVED.name,
-        n: &UNSOLVED_N,
-        m: &[],
-        answer: TOP,
-        count: 12,
-    }; rounds::LEAST.len() + 1];
-    let mut index = 0;
-    while index < rounds::LEAST.len() {
-        list[index] = rounds::LEAST[index];
-        index += 1;
-    }
-    list
 };
 
 /// A case with a sample and its answer.

@@ -83,7 +83,7 @@ pub const ENTRY: Entry = Entry {
     rows: Some(files::rows_of_file),
     table: None,
     groups: Vec::new,
-    least: &[],
+    least: Vec::new,
 };
 
 /// No entry yet.

@@ -103,38 +103,20 @@ pub const fn at_largest<E: InRounds>() -> Group {
 }
 
 /// The done calls that each of these groups must have.
-pub const LEAST: &[Least] = &[
-    done(NAMES[0], &[LARGEST], &[], OF_REFERENCE),
-    done(NAMES[1], &ABOVE_A_POWER, &[], PAIRS),
-    done(NAMES[2], &[LARGEST], &MANY_M, MANY),
-    done(NAMES[3], &ALL_LARGE, &[], AT_LARGE),
-];
-
-/// All other large sizes.
-const ALL_LARGE: [usize; LARGE.end - LARGE.start] = {
-    let mut list = [0; LARGE.end - LARGE.start];
-    let mut index = 0;
-    while index < list.len() {
-        list[index] = LARGE.start + index;
-        index += 1;
-    }
-    list
-};
-
-/// The least number of done calls of a group at each of these sizes.
-const fn done(
-    group: &'static str,
-    n: &'static [usize],
-    m: &'static [usize],
-    count: usize,
-) -> Least {
-    Least {
-        group,
-        n,
-        m,
+pub fn least() -> Vec<Least> {
+    let done = |name, n: &[usize], m: &[usize], count| Least {
+        group: name,
+        n: n.to_vec(),
+        m: m.to_vec(),
         answer: DONE,
         count,
-    }
+    };
+    vec![
+        done(NAMES[0], &[LARGEST], &[], OF_REFERENCE),
+        done(NAMES[1], &ABOVE_A_POWER, &[], PAIRS),
+        done(NAMES[2], &[LARGEST], &MANY_M, MANY),
+        done(NAMES[3], &LARGE.collect::<Vec<_>>(), &[], AT_LARGE),
+    ]
 }
 
 /// What the slices hold: all pairs of kinds first, then random words and those

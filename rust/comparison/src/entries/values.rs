@@ -1,7 +1,7 @@
 //! The entry values.
 
 use super::faults::fault_groups;
-use super::keyed::{self, after_key, fill, of_sample, set_key, Keyed};
+use super::keyed::{self, after_key, of_kinds, of_sample, set_key, sizes_of, Keyed};
 use super::rounds::{self, InRounds, Round};
 use super::{number, stated_element, DONE};
 use crate::case::{Case, Entry, Group, Taken};
@@ -50,15 +50,22 @@ pub const VALUES: Entry = Entry {
         let rounds = rounds::groups::<Values>();
         [own, rounds, fault_groups::<Values>()].concat()
     },
-    least: rounds::LEAST,
+    least: rounds::least,
     ..keyed::ENTRY
 };
 
 /// A case with a random key, the masked witness of random positions and honest
 /// numbers at a challenge of this kind.
 fn honest(sizes: Sizes, challenge: Kind, generator: &mut Generator) -> Case {
-    let Sizes { n, d, .. } = sizes;
     let mut case = any_numbers(sizes, challenge, generator);
+    make_honest(&mut case, generator);
+    case
+}
+
+/// Sets t to the masked witness of random positions, and q to honest numbers.
+fn make_honest(case: &mut Case, generator: &mut Generator) {
+    let sizes = sizes_of(case);
+    let Sizes { n, d, .. } = sizes;
     let positions = positions_below(n, 1 << d, generator);
     let u = generator.bits(sizes.bit_bytes());
     let v = generator.words(sizes.correlation_words());
@@ -72,14 +79,16 @@ fn honest(sizes: Sizes, challenge: Kind, generator: &mut Generator) -> Case {
     let q = honest_q(&u, &v, case.words(DELTA)).expect("coordinates up to 2047");
     case.set_bytes(T, &t);
     case.set_words(Q, &q);
-    case
 }
 
 /// A case with a random key, and any t and q at a challenge of this kind.
 fn any_numbers(sizes: Sizes, challenge: Kind, generator: &mut Generator) -> Case {
-    let mut case = Values::right(sizes, generator);
-    fill(&mut case, &[(DELTA, challenge)], generator);
-    case
+    with_kinds(sizes, &[(DELTA, challenge)], generator)
+}
+
+/// A case with slices of these kinds, the others random.
+fn with_kinds(sizes: Sizes, kinds: &[(&str, Kind)], generator: &mut Generator) -> Case {
+    of_kinds::<Values>(sizes, kinds, generator).answering(Some(DONE))
 }
 
 const HONEST: Group = Group::new(
@@ -111,11 +120,9 @@ const SMALL_N: Group = Group::new("n to 9, every m", |generator, each| {
 
 const EXTREMES: Group = Group::new(keyed::EXTREMES, |generator, each| {
     keyed::with_extremes(generator, &mut |sizes, turn, [h, x, t, q], generator| {
-        let mut case = Values::right(sizes, generator);
         let delta = Kind::EXTREMES[turn % 3];
         let kinds = [(H, h), (X, x), (T, t), (Q, q), (DELTA, delta)];
-        fill(&mut case, &kinds, generator);
-        each(case);
+        each(with_kinds(sizes, &kinds, generator));
     });
 });
 
@@ -123,14 +130,11 @@ impl InRounds for Values {
     /// Every other round has honest numbers.
     fn in_round(round: &Round, generator: &mut Generator, each: &mut dyn FnMut(Case)) {
         let [h, x, t, q, delta, _] = round.kinds;
-        let mut case = if round.number % 2 == 1 {
-            honest(round.sizes, delta, generator)
-        } else {
-            let mut case = any_numbers(round.sizes, delta, generator);
-            fill(&mut case, &[(T, t), (Q, q)], generator);
-            case
-        };
-        fill(&mut case, &[(H, h), (X, x)], generator);
+        let kinds = [(H, h), (X, x), (T, t), (Q, q), (DELTA, delta)];
+        let mut case = with_kinds(round.sizes, &kinds, generator);
+        if round.number % 2 == 1 {
+            make_honest(&mut case, generator);
+        }
         each(case);
     }
 }

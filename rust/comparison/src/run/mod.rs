@@ -196,8 +196,10 @@ impl Run {
         if differences > 0 {
             faults.push(format!("{differences} differences"));
         }
-        for least in entry.least.iter().filter(|least| least.group == group.name) {
-            faults.extend(of_sizes.faults(least));
+        for least in (entry.least)() {
+            if least.group == group.name {
+                faults.extend(of_sizes.faults(&least));
+            }
         }
         let text = format!(
             "{}, {}: {inputs} inputs, answers {}",
@@ -231,7 +233,7 @@ impl Run {
         }
         self.unaltered += usize::from(progress.spoil.is_some());
         let mut faults = answer_faults(entry, &total);
-        for least in entry.least {
+        for least in (entry.least)() {
             if !groups.iter().any(|group| group.name == least.group) {
                 faults.push(format!("no group {}", least.group));
             }

@@ -38,8 +38,8 @@ impl OfSizes {
     pub fn faults(&self, least: &Least) -> Vec<String> {
         let Least { answer, count, .. } = *least;
         let mut sizes: Vec<(usize, Option<usize>)> = Vec::new();
-        for &n in least.n {
-            match least.m {
+        for &n in &least.n {
+            match &least.m[..] {
                 [] => sizes.push((n, None)),
                 list => sizes.extend(list.iter().map(|&m| (n, Some(m)))),
             }

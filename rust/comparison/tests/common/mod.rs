@@ -59,7 +59,7 @@ pub fn entry(library: Call, groups: fn() -> Vec<Group>) -> Entry {
         rows: None,
         table: None,
         groups,
-        least: &[],
+        least: Vec::new,
     }
 }
 

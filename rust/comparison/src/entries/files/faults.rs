@@ -249,16 +249,12 @@ pub fn set_value(
     generator: &mut Generator,
 ) {
     if holds(fields[index].tag) == Some(Holds::Bits) {
-        fields[index].content[at] = match right {
-            true => 1,
-            false => any_of(&[2, 3, 128, 255], generator),
-        };
+        let above = any_of(&[2, 3, 128, 255], generator);
+        fields[index].content[at] = if right { 1 } else { above };
         return;
     }
-    let mut word = match right {
-        true => F::LARGEST,
-        false => any_of(&[2048, word_above(generator)], generator),
-    };
+    let above = any_of(&[2048, word_above(generator)], generator);
+    let mut word = if right { F::LARGEST } else { above };
     set_word(&mut fields[index], at, word);
     while fields::dependent_rows(fields) {
         word -= 1;

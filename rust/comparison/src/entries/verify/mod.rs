@@ -5,7 +5,7 @@
 mod changes;
 
 use super::faults::fault_groups;
-use super::keyed::{self, after_key, fill, of_sample, of_sizes, sizes_of, Keyed};
+use super::keyed::{self, after_key, fill, of_kinds, of_sample, of_sizes, sizes_of, Keyed};
 use super::rounds::{self, InRounds, Round};
 use super::witnesses;
 use super::{DONE, REJECTED};
@@ -83,7 +83,7 @@ pub const VERIFY: Entry = Entry {
         let rounds = rounds::groups::<Verify>();
         [own, rounds, fault_groups::<Verify>()].concat()
     },
-    least: rounds::LEAST,
+    least: rounds::least,
     ..keyed::ENTRY
 };
 
@@ -206,9 +206,8 @@ const ANY_NUMBERS: Group = Group::new(
     |generator, each| {
         for n in keyed::EVERY_N {
             let m = keyed::some_m(n, generator)[(n + 2) % 3];
-            let mut case = of_sizes::<Verify>(keyed::sizes(n, m), generator);
-            let delta = Kind::CHALLENGES[n / 3 % 3];
-            fill(&mut case, &[(DELTA, delta)], generator);
+            let kinds = [(DELTA, Kind::CHALLENGES[n / 3 % 3])];
+            let case = of_kinds::<Verify>(keyed::sizes(n, m), &kinds, generator);
             let case = balanced(case);
             with_any_change(&case, A, generator)
                 .into_iter()
@@ -238,7 +237,6 @@ const SMALL_N: Group = Group::new("n to 9, every m", |generator, each| {
 const EXTREMES: Group = Group::new(keyed::EXTREMES, |generator, each| {
     keyed::with_extremes(generator, &mut |sizes, turn, kinds, generator| {
         let [key, t, q, sums] = kinds;
-        let mut case = of_sizes::<Verify>(sizes, generator);
         let kinds = [
             (H, key),
             (X, key),
@@ -249,7 +247,7 @@ const EXTREMES: Group = Group::new(keyed::EXTREMES, |generator, each| {
             (ALPHA, sums.next_extreme(turn / 3)),
             (A, sums.next_extreme(turn / 9)),
         ];
-        fill(&mut case, &kinds, generator);
+        let case = of_kinds::<Verify>(sizes, &kinds, generator);
         if turn % 2 == 0 {
             each(case);
         } else {
@@ -269,7 +267,6 @@ fn accepted(round: &Round, generator: &mut Generator) -> Case {
         return honest(&sample, generator);
     }
     let [h, x, t, q, delta, alpha] = kinds;
-    let mut case = of_sizes::<Verify>(sizes, generator);
     let kinds = [
         (H, h),
         (X, x),
@@ -280,8 +277,7 @@ fn accepted(round: &Round, generator: &mut Generator) -> Case {
         (ALPHA, alpha),
         (A, delta),
     ];
-    fill(&mut case, &kinds, generator);
-    balanced(case)
+    balanced(of_kinds::<Verify>(sizes, &kinds, generator))
 }
 
 impl InRounds for Verify {

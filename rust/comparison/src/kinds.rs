@@ -116,7 +116,8 @@ impl Kind {
                 }
                 h.extend(row);
             }
-            if independent(&h, n) {
+            let drawn = matches!(self, Kind::Random | Kind::Edges);
+            if !drawn || independent(&h, n) {
                 return h;
             }
         }

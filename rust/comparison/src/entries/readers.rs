@@ -135,7 +135,7 @@ fn contents(fields: &[WrittenField]) -> Vec<Stated> {
 /// have n, m and the serial.
 fn case(bytes: Lent, answer: Option<u32>, generator: &mut Generator) -> Case {
     let right = answer == Some(DONE);
-    let stated = right.then(|| contents(&walked(bytes.bytes())));
+    let stated = right.then(|| contents(&walked(bytes.bytes()).collect::<Vec<_>>()));
     let outputs = [N, M, SERIAL].map(|name| (name, Lent::any_number(generator)));
     Case {
         answer,

@@ -32,7 +32,7 @@ const MANY: usize = 200;
 const LARGE: std::ops::Range<usize> = 33..LARGEST;
 
 /// The rounds for each of these.
-const AT_LARGE: usize = 5;
+const AT_LARGE: usize = 4;
 
 /// One round: its number, the sizes, and the kinds of six slices.
 pub struct Round {

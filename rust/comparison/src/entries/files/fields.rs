@@ -129,18 +129,17 @@ pub fn content_mut(fields: &mut [WrittenField], tag: u8) -> &mut Vec<u8> {
 }
 
 /// The fields of the bytes of a file, up to one that is cut.
-pub fn walked(bytes: &[u8]) -> Vec<WrittenField> {
-    let mut fields = Vec::new();
+pub fn walked(bytes: &[u8]) -> impl Iterator<Item = WrittenField> + '_ {
     let mut rest = bytes;
-    while let &[tag, high, low, ref after @ ..] = rest {
-        let length = usize::from(u16::from_be_bytes([high, low]));
-        let Some((content, next)) = after.split_at_checked(length) else {
-            break;
+    std::iter::from_fn(move || {
+        let &[tag, high, low, ref after @ ..] = rest else {
+            return None;
         };
-        fields.push(WrittenField::new(tag, content.to_vec()));
+        let length = usize::from(u16::from_be_bytes([high, low]));
+        let (content, next) = after.split_at_checked(length)?;
         rest = next;
-    }
-    fields
+        Some(WrittenField::new(tag, content.to_vec()))
+    })
 }
 
 /// Where each field starts.
@@ -167,22 +166,37 @@ pub fn elements(field: &WrittenField) -> usize {
     }
 }
 
-/// Whether rows of H depend on each other. Fields without sizes or without H,
-/// and those that other refusals apply to, have no such rows.
-pub fn dependent_rows(fields: &[WrittenField]) -> bool {
-    let content = |tag| {
-        let field = fields.iter().find(|field| field.tag == tag);
-        field.map(|field| &field.content[..])
+/// The tags of the fields of a key, with which a file begins.
+pub const KEY_TAGS: [u8; 3] = [tag::SIZES, tag::H, tag::X];
+
+/// n and H of a file that begins with these fields; none where those of the key
+/// aren't right.
+pub fn rows_of_key(fields: &[WrittenField]) -> Option<(usize, Vec<u16>)> {
+    let key @ [sizes, h, x] = fields.get(..KEY_TAGS.len())? else {
+        return None;
     };
-    let (Some(&[n, m]), Some(h)) = (content(tag::SIZES), content(tag::H)) else {
-        return false;
+    let &[n, m] = &sizes.content[..] else {
+        return None;
     };
-    let Ok(sizes) = Sizes::judged(n.into(), m.into()) else {
-        return false;
-    };
-    if h.len() != 2 * sizes.h_words() {
-        return false;
+    let sizes = Sizes::judged(n.into(), m.into()).ok()?;
+    let stated = [2, 2 * sizes.h_words(), 2 * sizes.x_words()];
+    let right = key
+        .iter()
+        .zip(KEY_TAGS)
+        .zip(stated)
+        .all(|((field, tag), length)| {
+            field.tag == tag && field.content.len() == length && usize::from(field.length) == length
+        });
+    if !right {
+        return None;
     }
-    let h = words(h);
-    h.iter().all(|&word| word <= F::LARGEST) && !independent(&h, sizes.n)
+    let [h, x] = [h, x].map(|field| words(&field.content));
+    let mut all = h.iter().chain(&x);
+    all.all(|&word| word <= F::LARGEST).then_some((sizes.n, h))
+}
+
+/// Whether rows of H depend on each other, in a file whose key has no other
+/// fault.
+pub fn dependent_rows(fields: &[WrittenField]) -> bool {
+    rows_of_key(fields).is_some_and(|(n, h)| !independent(&h, n))
 }

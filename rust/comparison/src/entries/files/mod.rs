@@ -15,8 +15,8 @@ pub mod table;
 use crate::case::{Case, Taken};
 use crate::lent::Lent;
 use crate::named::Named;
-use fields::{any_fields, content_of, walked};
-use reference::package::{package_part, tag, words, WrittenField, CHECK_FILE_TAGS, PACKAGE_TAGS};
+use fields::{any_fields, rows_of_key, walked, KEY_TAGS};
+use reference::package::{package_part, WrittenField, CHECK_FILE_TAGS, PACKAGE_TAGS};
 use reference::samples::Generator;
 use reference::Refusal;
 
@@ -106,20 +106,11 @@ pub fn case<R: Reader>(bytes: &[u8], answer: Option<u32>, generator: &mut Genera
     R::case(Lent::with_bytes(bytes, generator), answer, generator)
 }
 
-/// The tags of the fields that are judged before the rows of H.
-const OF_KEY: [u8; 3] = [tag::SIZES, tag::H, tag::X];
-
 /// n and H of the bytes of a file; none where the fields of the key aren't
-/// right. The reader of check files judges those of packages alike.
+/// right.
 pub fn rows_of_bytes(bytes: &[u8]) -> Option<(usize, Vec<u16>)> {
-    let judged = reference::judge_check_file(bytes);
-    let refused = judged.err().and_then(|refused| refused.tag);
-    let key_refused = refused.is_some_and(|tag| OF_KEY.contains(&tag));
-    (!key_refused).then(|| {
-        let fields = walked(bytes);
-        let n = content_of(&fields, tag::SIZES)[0];
-        (n.into(), words(content_of(&fields, tag::H)))
-    })
+    let fields: Vec<WrittenField> = walked(bytes).take(KEY_TAGS.len()).collect();
+    rows_of_key(&fields)
 }
 
 /// n and H of what an entry that reads a file takes.

@@ -149,34 +149,6 @@ macro_rules! buffer {
     };
 }
 
-/// The type of the elements of a lent slice.
-pub trait Element: Sized {
-    /// The content of a slice of these elements.
-    fn of(lent: &Lent) -> &[Self];
-    /// The content of a slice of these elements, to write.
-    fn of_mut(lent: &mut Lent) -> &mut [Self];
-}
-
-impl Element for u8 {
-    fn of(lent: &Lent) -> &[u8] {
-        lent.bytes()
-    }
-
-    fn of_mut(lent: &mut Lent) -> &mut [u8] {
-        lent.bytes_mut()
-    }
-}
-
-impl Element for u16 {
-    fn of(lent: &Lent) -> &[u16] {
-        lent.words()
-    }
-
-    fn of_mut(lent: &mut Lent) -> &mut [u16] {
-        lent.words_mut()
-    }
-}
-
 impl Lent {
     /// A slice with these bytes.
     pub fn with_bytes(content: &[u8], generator: &mut Generator) -> Lent {

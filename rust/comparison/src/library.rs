@@ -2,10 +2,6 @@
 //! it is done, else the number of the refusal; verify and check answer 255 when
 //! they reject. The field of a package answers a length.
 //!
-//! Beside each function that takes a key stands a module of its name, with the
-//! names of what it takes, and with a call of any implementation on the slices
-//! of a case.
-//!
 //! With the feature `other`, the module `other` has the same functions of
 //! another build of the library, linked beside it, whose C names start with
 //! `other_`.
@@ -69,38 +65,6 @@ macro_rules! on_keys {
                     x.len(),
                     $($input.as_ptr(), $input.len(),)*
                     $($output.as_mut_ptr(), $output.len(),)*
-                )
-            }
-        }
-
-        $(#[$about])*
-        pub mod $name {
-            use crate::lent::{Element, Lent};
-            use reference::Key;
-
-            /// The names of the numbers.
-            pub const NUMBERS: &[&str] = &["n", "m"];
-            /// The names of the slices that it reads.
-            pub const INPUTS: &[&str] = &["h", "x", $(stringify!($input)),*];
-            /// The names of the slices that it writes.
-            pub const OUTPUTS: &[&str] = &[$(stringify!($output)),*];
-
-            /// Calls an implementation with lent slices.
-            pub fn with<A>(
-                entry: fn(Key<'_>, $(&[$read],)* $(&mut [$written],)*) -> A,
-                numbers: &[usize],
-                inputs: &[Lent],
-                outputs: &mut [Lent],
-            ) -> A {
-                let (&[n, m], [h, x, $($input),*], [$($output),*]) = (numbers, inputs, outputs)
-                else {
-                    panic!("other slices than those of the entry");
-                };
-                let key = Key { n, m, h: h.words(), x: x.words() };
-                entry(
-                    key,
-                    $(<$read>::of($input),)*
-                    $(<$written>::of_mut($output),)*
                 )
             }
         }

@@ -1,10 +1,14 @@
 //! The program perkcheck, run with files on a pipe that are written in pieces
 //! of random sizes.
 
-use crate::entries::check::{changed, honest, Check};
-use crate::entries::files::{any_serial, damaged_file, faulty, spots, Pool, CHECK_FILE};
+use crate::entries::check::{changeable, changed, honest, Check};
+use crate::entries::files::damage::{damaged_file, Pool};
+use crate::entries::files::faults::{faulty, spots};
+use crate::entries::files::fields::{any_serial, content_mut, serial_content};
+use crate::entries::files::REFUSALS;
 use crate::entries::keyed;
-use reference::package::join;
+use crate::kinds::Kind;
+use reference::package::{join, tag};
 use reference::perkcheck::LIMIT;
 use reference::samples::Generator;
 use std::io::{ErrorKind, Read, Write};
@@ -18,19 +22,12 @@ use std::time::Duration;
 pub const NAME: &str = "perkcheck";
 
 /// The kinds of lines, each of which must be reached.
-pub const LINES: &[&str] = &[
-    "accepted",
-    "rejected",
-    "refused 1",
-    "refused 2",
-    "refused 4",
-    "refused 5",
-    "refused 6",
-    "refused 9",
-    "refused 10",
-    "refused 11",
-    "refused 12",
-];
+pub fn lines() -> Vec<String> {
+    let refused = REFUSALS.iter();
+    let refused = refused.map(|refusal| format!("refused {}", refusal.number()));
+    let verdicts = ["accepted", "rejected"].map(str::to_string);
+    verdicts.into_iter().chain(refused).collect()
+}
 
 /// The kind of a line: its last word, or `refused` and the number.
 pub fn kind(line: &str) -> String {
@@ -58,6 +55,8 @@ pub struct Group {
     pub name: &'static str,
     /// Hands over the files, one after another.
     pub files: fn(&mut Generator, &mut Each),
+    /// Whether rows of H may depend on each other.
+    pub any_rows: bool,
 }
 
 /// The groups of files.
@@ -70,12 +69,14 @@ fn closed(bytes: Vec<u8>) -> File {
 
 const HONEST: Group = Group {
     name: "n to 32 and larger, honest files with any serial",
+    any_rows: false,
     files: |generator, each| {
         for n in (2..=32).chain([33, 39, 40, 64]) {
             let m = keyed::some_m(n, generator)[n % 3];
-            let mut fields = honest(n, m, 0, generator);
+            let mut fields = honest(n, m, Kind::Random, generator);
             for _ in 0..if n < 10 { 20 } else { 1 } {
-                fields[3].content = any_serial(generator).to_be_bytes().to_vec();
+                let serial = serial_content(any_serial(generator));
+                *content_mut(&mut fields, tag::SERIAL) = serial;
                 each(generator, closed(join(&fields)));
             }
         }
@@ -84,17 +85,14 @@ const HONEST: Group = Group {
 
 const CHANGED: Group = Group {
     name: "n to 12, one bit changed in each field, no refusal",
+    any_rows: false,
     files: |generator, each| {
         for n in 2..=12 {
             let m = 1 + generator.below(n - 1);
-            let fields = honest(n, m, 0, generator);
-            for index in 1..CHECK_FILE {
-                if !fields[index].content.is_empty() {
-                    for _ in 0..4 {
-                        let (fields, _) = changed(&fields, index, generator);
-                        each(generator, closed(join(&fields)));
-                    }
-                }
+            let fields = honest(n, m, Kind::Random, generator);
+            for tag in changeable(&fields).repeat(4) {
+                let (fields, _) = changed(&fields, tag, generator);
+                each(generator, closed(join(&fields)));
             }
         }
     },
@@ -102,8 +100,9 @@ const CHANGED: Group = Group {
 
 const PREFIXES: Group = Group {
     name: "every prefix of a file, n = 2",
+    any_rows: false,
     files: |generator, each| {
-        let bytes = join(&honest(2, 1, 0, generator));
+        let bytes = join(&honest(2, 1, Kind::Random, generator));
         for len in 0..bytes.len() {
             each(generator, closed(bytes[..len].to_vec()));
         }
@@ -112,9 +111,10 @@ const PREFIXES: Group = Group {
 
 const FAULTS: Group = Group {
     name: "one fault at each place of each field",
+    any_rows: false,
     files: |generator, each| {
         for (n, m) in [(2, 1), (3, 2), (6, 3), (64, 63)] {
-            let fields = honest(n, m, 0, generator);
+            let fields = honest(n, m, Kind::Random, generator);
             for spot in spots::<Check>(&fields).repeat(3) {
                 let (bytes, _) = faulty::<Check>(&fields, &[spot], generator);
                 each(generator, closed(bytes));
@@ -125,6 +125,7 @@ const FAULTS: Group = Group {
 
 const DAMAGED: Group = Group {
     name: "damaged files",
+    any_rows: true,
     files: |generator, each| {
         let pool = Pool::new::<Check>(generator);
         for _ in 0..1_000 {
@@ -136,9 +137,10 @@ const DAMAGED: Group = Group {
 
 const LENGTHS: Group = Group {
     name: "lengths about the limit, the pipe closed or left open",
+    any_rows: false,
     files: |generator, each| {
         for n in [2, 5, 64] {
-            let bytes = join(&honest(n, n - 1, 0, generator));
+            let bytes = join(&honest(n, n - 1, Kind::Random, generator));
             for len in [LIMIT - 1, LIMIT, LIMIT + 1, 65_536, 70_000, 200_000] {
                 for open in [false, true] {
                     let mut bytes = bytes.clone();

@@ -2,7 +2,7 @@
 //! library.
 
 use comparison::case::Entry;
-use comparison::entries::{check, constraints, field, package_field, prove, readers, verify, ALL};
+use comparison::entries::{check, constraints, field, package_field, prove, readers, values, ALL};
 use comparison::run::Run;
 use comparison::vectors::{compare, directory, names, Outcome, Setting};
 use reference::samples::Generator;
@@ -225,20 +225,10 @@ fn other_lines() {
     assert!(difference(name, &content.replace("\nline ", "\nlines ")).is_some());
 }
 
-/// The entries that the vectors call.
+/// The entries that the vectors call: those of document 01, and check.
 fn entries() -> Vec<Entry> {
-    vec![
-        field::SUM,
-        field::PRODUCT,
-        constraints::CONSTRAINTS,
-        prove::PROVE,
-        constraints::VALUES,
-        verify::VERIFY,
-        readers::READ_PACKAGE,
-        readers::READ_CHECK_FILE,
-        package_field::FIELD,
-        check::CHECK,
-    ]
+    let last = ALL.iter().position(|entry| entry.name == check::CHECK.name);
+    ALL[..=last.expect("an entry")].to_vec()
 }
 
 /// Whether the vectors pass with these entries.
@@ -252,10 +242,10 @@ fn wrong_answers() {
     assert!(entries_pass(&entries()));
     for index in 0..entries().len() {
         let mut entries = entries();
-        entries[index].library = |_, _, _| 3;
+        entries[index].library = |_, _| 3;
         assert!(!entries_pass(&entries), "{}", entries[index].name);
         // Nothing is written, nothing rejected or refused.
-        entries[index].library = |_, _, _| 0;
+        entries[index].library = |_, _| 0;
         assert!(!entries_pass(&entries), "{}", entries[index].name);
     }
 }
@@ -264,8 +254,8 @@ fn wrong_answers() {
 macro_rules! changed {
     ($entry:expr, $output:expr) => {
         Entry {
-            library: |numbers, inputs, outputs| {
-                let answer = ($entry.library)(numbers, inputs, outputs);
+            library: |taken, outputs| {
+                let answer = ($entry.library)(taken, outputs);
                 let last = outputs[$output].len() - 1;
                 outputs[$output].change(last, 0);
                 answer
@@ -277,28 +267,29 @@ macro_rules! changed {
 
 #[test]
 fn wrong_outputs() {
-    for (index, entry) in [
-        (0, changed!(field::SUM, 0)),
-        (1, changed!(field::PRODUCT, 0)),
-        (2, changed!(constraints::CONSTRAINTS, 0)),
-        (2, changed!(constraints::CONSTRAINTS, 1)),
-        (3, changed!(prove::PROVE, 0)),
-        (3, changed!(prove::PROVE, 1)),
-        (4, changed!(constraints::VALUES, 0)),
-        (6, changed!(readers::READ_PACKAGE, 0)),
-        (6, changed!(readers::READ_PACKAGE, 1)),
-        (6, changed!(readers::READ_PACKAGE, 2)),
-        (7, changed!(readers::READ_CHECK_FILE, 0)),
-        (7, changed!(readers::READ_CHECK_FILE, 1)),
-        (7, changed!(readers::READ_CHECK_FILE, 2)),
-        (8, changed!(package_field::FIELD, 0)),
-        (8, changed!(package_field::FIELD, 1)),
-        (8, changed!(package_field::FIELD, 2)),
+    for wrong in [
+        changed!(field::SUM, "out"),
+        changed!(field::PRODUCT, "out"),
+        changed!(constraints::CONSTRAINTS, "t"),
+        changed!(constraints::CONSTRAINTS, "polynomials"),
+        changed!(prove::PROVE, "t"),
+        changed!(prove::PROVE, "a"),
+        changed!(values::VALUES, "values"),
+        changed!(readers::READ_PACKAGE, "n"),
+        changed!(readers::READ_PACKAGE, "m"),
+        changed!(readers::READ_PACKAGE, "serial"),
+        changed!(readers::READ_CHECK_FILE, "n"),
+        changed!(readers::READ_CHECK_FILE, "m"),
+        changed!(readers::READ_CHECK_FILE, "serial"),
+        changed!(package_field::FIELD, "start"),
+        changed!(package_field::FIELD, "length"),
+        changed!(package_field::FIELD, "part"),
     ] {
+        let name = wrong.name;
         let mut entries = entries();
-        assert_eq!(entries[index].name, entry.name);
-        entries[index] = entry;
-        assert!(!entries_pass(&entries), "{}", entries[index].name);
+        let entry = entries.iter_mut().find(|entry| entry.name == name);
+        *entry.expect("an entry of the vectors") = wrong;
+        assert!(!entries_pass(&entries), "{name}");
     }
 }
 

@@ -1,21 +1,24 @@
 //! The check of perkcheck: reads a check file, then verifies it. It answers as
 //! verify does, or the refusal of the reader.
 
-use super::files::{self, Reader, CHECK_FILE};
-use super::readers::key_a;
-use super::{keyed, DONE, REJECTED};
+use super::files::fields::{any_fields, content_mut, content_of, dependent_rows, holds, Holds};
+use super::files::{self, groups, table, File, Reader, BYTES};
+use super::readers::{self, key_a};
+use super::{keyed, verify, witnesses, DONE, REJECTED};
 use crate::case::{Case, Entry, Group, Table};
+use crate::kinds::Kind;
 use crate::lent::Lent;
 use crate::library;
-use reference::package::{join, WrittenField};
-use reference::samples::{Generator, Sample};
+use crate::named::Named;
+use reference::package::{check_fields, join, package_fields, tag, WrittenField};
+use reference::samples::Generator;
 use reference::Verdict;
 
 /// The check of a check file.
 pub struct Check;
 
 impl Reader for Check {
-    const FIELDS: usize = CHECK_FILE;
+    const FILE: File = File::CheckFile;
     const DAMAGED: usize = 16_000;
     const LARGE: &'static [(usize, usize)] = &[(12, 5), (16, 3), (17, 8)];
 
@@ -26,67 +29,43 @@ impl Reader for Check {
 
     /// Honest files.
     fn fields(n: usize, m: usize, generator: &mut Generator) -> Vec<WrittenField> {
-        honest(n, m, 0, generator)
+        honest(n, m, Kind::Random, generator)
     }
 }
+
+/// The answers without a refusal.
+const ANSWERS: &[&str] = &["0", "255"];
 
 /// The check of a check file.
 pub const CHECK: Entry = Entry {
     name: "check",
-    numbers: &[],
-    inputs: &["bytes"],
-    outputs: &[],
     done: &[DONE, REJECTED],
-    refusals: files::REFUSALS,
-    library: |_, inputs, _| library::check(inputs[0].bytes()),
-    reference: |_, inputs, _| match reference::check(inputs[0].bytes()) {
+    library: |taken, _| library::check(taken.bytes(BYTES)),
+    reference: |taken, _| match reference::check(taken.bytes(BYTES)) {
         Ok((_, Verdict::Accepted)) => DONE,
         Ok((_, Verdict::Rejected)) => REJECTED,
         Err(refusal) => refusal.number(),
     },
     table: Some(Table {
         of: "field",
-        columns: COLUMNS,
-        rows: &files::check_file_rows(&["0", "255"]),
-        cell: |answer, _, inputs| match answer {
-            REJECTED => ("read", "255"),
-            _ => files::cell(reference::judge_check_file(inputs[0].bytes())),
+        columns: || table::columns(File::CheckFile, ANSWERS),
+        rows: || table::rows(File::CheckFile, ANSWERS),
+        cell: |answer, taken| match answer {
+            REJECTED => (table::READ.to_string(), REJECTED.to_string()),
+            _ => table::cell(reference::judge_check_file(taken.bytes(BYTES))),
         },
     }),
-    groups: &[
-        EXAMPLES,
-        HONEST,
-        CHANGED,
-        EVERY_BIT,
-        ZEROS,
-        files::prefixes::<Check>(),
-        files::appended::<Check>(),
-        files::one_fault::<Check>(),
-        files::sizes::<Check>(),
-        files::each_value::<Check>(),
-        files::two_faults::<Check>(),
-        files::order::<Check>(),
-        files::short::<Check>(),
-        files::other_kind::<Check>(),
-        files::damaged::<Check>(),
-    ],
-    least: &[],
+    groups: || {
+        let own = vec![EXAMPLES, HONEST, CHANGED, EVERY_BIT, ZEROS];
+        [own, groups::fault_groups::<Check>()].concat()
+    },
+    ..readers::ENTRY
 };
-
-/// The columns of a reader, and Rejected.
-const COLUMNS: &[&str] = &[
-    "9 P1", "10 P2", "11 P3", "9 P4", "1 P5", "2 P5", "4 P5", "5 P5", "6 P5", "12 P6", "0", "255",
-];
 
 /// A case with these bytes.
 fn case(bytes: Lent, answer: Option<u32>) -> Case {
-    Case {
-        numbers: Vec::new(),
-        inputs: vec![bytes],
-        outputs: Vec::new(),
-        answer,
-        stated: None,
-    }
+    let case = Case::new(Named::new(), files::input(bytes), Named::new());
+    case.answering(answer)
 }
 
 /// A case with the bytes of these fields.
@@ -94,24 +73,19 @@ fn of_fields(fields: &[WrittenField], answer: Option<u32>, generator: &mut Gener
     case(Lent::with_bytes(&join(fields), generator), answer)
 }
 
-/// The fields of an honest check file, with this challenge.
-pub fn honest(
-    n: usize,
-    m: usize,
-    challenge: usize,
-    generator: &mut Generator,
-) -> Vec<WrittenField> {
-    let mut sample = Sample::solving(n, m, generator);
-    sample.delta = keyed::CHALLENGES[challenge](generator);
-    sample.make_honest();
-    sample.fields().expect("the positions solve the key")
+/// The fields of an honest check file, with a challenge of this kind.
+pub fn honest(n: usize, m: usize, challenge: Kind, generator: &mut Generator) -> Vec<WrittenField> {
+    let sample = verify::sample(n, m, challenge, generator);
+    let (t, a) = witnesses::proof(&sample);
+    let mut fields = package_fields(sample.key(), sample.serial, &t, &a);
+    fields.extend(check_fields(
+        &sample.q,
+        &sample.masks,
+        &sample.delta,
+        &sample.alpha,
+    ));
+    fields
 }
-
-// Fields by their index.
-const SERIAL: usize = 3;
-const T: usize = 4;
-const A: usize = 5;
-const MASKS: usize = 7;
 
 /// The fields with one bit of this field changed, so that no refusal applies to
 /// the file, and what is answered where it is known without the reference: K
@@ -119,108 +93,129 @@ const MASKS: usize = 7;
 /// challenge isn't zero. The sizes are no such field.
 pub fn changed(
     fields: &[WrittenField],
-    index: usize,
+    tag: u8,
     generator: &mut Generator,
 ) -> (Vec<WrittenField>, Option<u32>) {
-    let mut fields = fields.to_vec();
-    let content = &mut fields[index].content;
-    let len = content.len();
-    match index {
-        SERIAL => content[generator.below(len)] ^= 1 << generator.below(8),
-        T => content[generator.below(len)] ^= 1,
-        _ => {
-            let bit = generator.below(11);
-            content[2 * generator.below(len / 2) + 1 - bit / 8] ^= 1 << (bit % 8);
-        }
-    }
-    let answer = match index {
-        SERIAL => Some(DONE),
-        A | MASKS => Some(REJECTED),
+    let answer = match tag {
+        tag::SERIAL => Some(DONE),
+        tag::A | tag::MASKS => Some(REJECTED),
         _ => None,
     };
-    (fields, answer)
+    loop {
+        let mut fields = fields.to_vec();
+        let content = content_mut(&mut fields, tag);
+        let len = content.len();
+        match holds(tag) {
+            Some(Holds::Serial) => content[generator.below(len)] ^= 1 << generator.below(8),
+            Some(Holds::Bits) => content[generator.below(len)] ^= 1,
+            _ => {
+                let bit = generator.below(11);
+                content[2 * generator.below(len / 2) + 1 - bit / 8] ^= 1 << (bit % 8);
+            }
+        }
+        if !dependent_rows(&fields) {
+            return (fields, answer);
+        }
+    }
 }
 
-const EXAMPLES: Group = Group {
-    name: "key A",
-    cases: |generator, each| {
-        let bytes = key_a(CHECK_FILE);
-        each(case(Lent::with_bytes(&bytes, generator), Some(DONE)));
-        // Fields 01 to 06 have 5, 7, 7, 5 and 5 bytes, the head 3, and a = 5.
-        let mut other = bytes.clone();
-        assert_eq!(other[32..34], [0, 5]);
-        other[33] = 4;
-        each(case(Lent::with_bytes(&other, generator), Some(REJECTED)));
-    },
-};
+/// The tags of the fields after the sizes that have content.
+pub fn changeable(fields: &[WrittenField]) -> Vec<u8> {
+    let filled = fields.iter().filter(|field| !field.content.is_empty());
+    let tags = filled.map(|field| field.tag);
+    tags.filter(|&tag| holds(tag) != Some(Holds::Sizes))
+        .collect()
+}
 
-const HONEST: Group = Group {
-    name: "every n, honest files, challenge random, zero or one",
-    cases: |generator, each| {
+const EXAMPLES: Group = Group::new("key A", |generator, each| {
+    let mut fields = key_a(File::CheckFile);
+    each(of_fields(&fields, Some(DONE), generator));
+    let a = content_mut(&mut fields, tag::A);
+    assert_eq!(a[..2], [0, 5]);
+    a[1] = 4;
+    each(of_fields(&fields, Some(REJECTED), generator));
+});
+
+const HONEST: Group = Group::new(
+    "every n, honest files, challenge random, zero or one",
+    |generator, each| {
         for n in keyed::EVERY_N {
             for (round, m) in keyed::some_m(n, generator).into_iter().enumerate() {
                 if n <= 12 || round == n % 3 {
-                    let fields = honest(n, m, (n / 3 + round) % 3, generator);
+                    let challenge = Kind::CHALLENGES[(n / 3 + round) % 3];
+                    let fields = honest(n, m, challenge, generator);
                     each(of_fields(&fields, Some(DONE), generator));
                 }
             }
         }
     },
-};
+);
 
-const CHANGED: Group = Group {
-    name: "n to 20 and larger, one bit changed in each field, no refusal",
-    cases: |generator, each| {
+const CHANGED: Group = Group::new(
+    "n to 20 and larger, one bit changed in each field, no refusal",
+    |generator, each| {
         for n in (2..=20).chain([32, 33, 64]) {
             let m = keyed::some_m(n, generator)[(n + 1) % 3];
-            let fields = honest(n, m, 0, generator);
-            let mut rounds: Vec<usize> = (1..CHECK_FILE).collect();
-            if n < 10 {
-                rounds = rounds.repeat(10);
-            }
-            for index in rounds {
-                if !fields[index].content.is_empty() {
-                    let (fields, answer) = changed(&fields, index, generator);
-                    each(of_fields(&fields, answer, generator));
-                }
+            let fields = honest(n, m, Kind::Random, generator);
+            let rounds = if n < 10 { 10 } else { 1 };
+            for tag in changeable(&fields).repeat(rounds) {
+                let (fields, answer) = changed(&fields, tag, generator);
+                each(of_fields(&fields, answer, generator));
             }
         }
     },
-};
+);
 
-const EVERY_BIT: Group = Group {
-    name: "every bit of an honest file changed, for n = 2, 3",
-    cases: |generator, each| {
+/// The bytes of an honest file. Whatever bit of H is changed, the rows do not
+/// depend on each other.
+fn honest_with_bits(n: usize, m: usize, generator: &mut Generator) -> Vec<u8> {
+    loop {
+        let fields = honest(n, m, Kind::Random, generator);
+        let len = content_of(&fields, tag::H).len();
+        let mut bits = (0..8 * len).map(|bit| {
+            let mut fields = fields.clone();
+            content_mut(&mut fields, tag::H)[bit / 8] ^= 1 << (bit % 8);
+            dependent_rows(&fields)
+        });
+        if !bits.any(|dependent| dependent) {
+            return join(&fields);
+        }
+    }
+}
+
+const EVERY_BIT: Group = Group::new(
+    "every bit of an honest file changed, for n = 2, 3",
+    |generator, each| {
         for (n, m) in [(2, 1), (3, 2)] {
-            let bytes = join(&honest(n, m, 0, generator));
-            for at in 0..bytes.len() {
-                for bit in 0..8 {
-                    let mut bytes = bytes.clone();
-                    bytes[at] ^= 1 << bit;
-                    each(case(Lent::with_bytes(&bytes, generator), None));
-                }
+            let bytes = honest_with_bits(n, m, generator);
+            for bit in 0..8 * bytes.len() {
+                let mut bytes = bytes.clone();
+                bytes[bit / 8] ^= 1 << (bit % 8);
+                each(case(Lent::with_bytes(&bytes, generator), None));
             }
         }
     },
-};
+);
 
-const ZEROS: Group = Group {
-    name: "challenge, weights or a zero, any numbers",
-    cases: |generator, each| {
-        const Q: usize = 6;
-        const DELTA: usize = 8;
-        const ALPHA: usize = 9;
+/// Fields that are zero together.
+const ZERO_FIELDS: [&[u8]; 4] = [
+    &[tag::ALPHA],
+    &[tag::MASKS, tag::A],
+    &[tag::DELTA],
+    &[tag::Q, tag::T],
+];
+
+const ZEROS: Group = Group::new(
+    "challenge, weights or a zero, any numbers",
+    |generator, each| {
         for n in 2..=20 {
             for set in 0..16 {
                 let m = keyed::some_m(n, generator)[set % 3];
-                let mut fields = files::any_fields(n, m, generator);
-                for (bit, list) in [&[ALPHA][..], &[MASKS, A], &[DELTA], &[Q, T]]
-                    .into_iter()
-                    .enumerate()
-                {
+                let mut fields = any_fields(n, m, generator);
+                for (bit, list) in ZERO_FIELDS.into_iter().enumerate() {
                     if set >> bit & 1 == 1 {
-                        for &index in list {
-                            fields[index].content.fill(0);
+                        for &tag in list {
+                            content_mut(&mut fields, tag).fill(0);
                         }
                     }
                 }
@@ -230,4 +225,4 @@ const ZEROS: Group = Group {
             }
         }
     },
-};
+);

@@ -1,19 +1,28 @@
 //! The entries that are compared.
+//!
+//! - [`keyed`], [`faults`], [`lengths`], [`rounds`] and [`witnesses`]: what the
+//!   entries that take a key have in common;
+//! - [`files`]: what the entries that take the bytes of a file have in common;
+//! - the others: one entry, or a few of one form.
 
-use crate::case::Entry;
+use crate::case::{Entry, Stated};
+use reference::large_field::COORDINATES;
 use reference::Refusal;
 
 pub mod check;
 pub mod completeness;
 pub mod constraints;
 pub mod demand_3;
+pub mod faults;
 pub mod field;
 pub mod files;
 pub mod keyed;
+pub mod lengths;
 pub mod package_field;
 pub mod prove;
 pub mod readers;
 pub mod rounds;
+pub mod values;
 pub mod verify;
 pub mod witnesses;
 
@@ -24,7 +33,7 @@ pub const ALL: &[Entry] = &[
     field::PRODUCT,
     constraints::CONSTRAINTS,
     prove::PROVE,
-    constraints::VALUES,
+    values::VALUES,
     verify::VERIFY,
     readers::READ_PACKAGE,
     readers::READ_CHECK_FILE,
@@ -43,7 +52,32 @@ const TOP: u32 = 8;
 /// The answer Rejected of verify and check.
 const REJECTED: u32 = 255;
 
+/// Added to a refusal where one entry stands for calls of several, of which no
+/// case here is refused.
+const REFUSED: u32 = 100;
+
 /// The number of an answer of the reference.
 fn number(answer: Result<(), Refusal>) -> u32 {
     answer.map_or_else(Refusal::number, |()| DONE)
+}
+
+/// An element of an output that document 01 states.
+fn stated(output: &'static str, index: usize, value: impl Into<u64>) -> Stated {
+    let value = value.into();
+    Stated {
+        output,
+        index,
+        value,
+    }
+}
+
+/// An element of K of an output: this word in coordinate 0 and 0 in the others.
+/// The index counts elements of K.
+fn stated_element(output: &'static str, index: usize, word: u16) -> Vec<Stated> {
+    (0..COORDINATES)
+        .map(|i| {
+            let value = if i == 0 { word } else { 0 };
+            stated(output, COORDINATES * index + i, value)
+        })
+        .collect()
 }

@@ -5,30 +5,42 @@
 //! there, which are copied to a further output; they are taken from the bytes
 //! that were lent.
 
-use super::files::{self, Reader, HEAD, PACKAGE};
-use super::{keyed, DONE};
-use crate::case::{Case, Entry, Group, Stated, Table};
+use super::files::faults::set_value;
+use super::files::fields::{any_fields, HEAD};
+use super::files::{self, groups, File, Reader, BYTES};
+use super::{keyed, readers, stated, DONE};
+use crate::case::{Case, Entry, Group, Table};
 use crate::lent::Lent;
 use crate::library;
-use reference::package::{join, WrittenField, PACKAGE_TAGS};
+use crate::named::Named;
+use reference::package::{index_of, join, tag, WrittenField};
 use reference::samples::Generator;
+
+/// The tag that is asked for.
+pub const TAG: &str = "tag";
+/// Where the part starts.
+pub const START: &str = "start";
+/// The length of the part.
+pub const LENGTH: &str = "length";
+/// The bytes of the part.
+pub const PART: &str = "part";
 
 /// The entry field of a package.
 pub struct PackageField;
 
 impl Reader for PackageField {
-    const FIELDS: usize = PACKAGE;
+    const FILE: File = File::Package;
     const DAMAGED: usize = 50_000;
 
     /// Three of four tags are those of a package.
     fn case(bytes: Lent, answer: Option<u32>, generator: &mut Generator) -> Case {
+        let tags = File::Package.tags();
         let tag = match generator.below(4) {
             0 => generator.number() as u8,
-            _ => PACKAGE_TAGS[generator.below(PACKAGE)],
+            _ => tags[generator.below(tags.len())],
         };
         let refused = answer.is_some_and(|answer| answer != DONE);
-        let stated = refused.then_some([0, 0]);
-        case(bytes, tag, stated, generator)
+        case(bytes, tag, refused.then_some([0, 0]), generator)
     }
 }
 
@@ -38,95 +50,102 @@ const OUTSIDE: u32 = 100;
 /// The entry field of a package.
 pub const FIELD: Entry = Entry {
     name: "field of a package",
-    numbers: &["tag"],
-    inputs: &["bytes"],
-    outputs: &["start", "length", "part"],
-    done: &[DONE],
     refusals: &[],
-    library: |numbers, inputs, outputs| {
-        let bytes = inputs[0].bytes();
-        let length = library::field(bytes, numbers[0] as u8, outputs[0].size_mut());
-        *outputs[1].size_mut() = length;
+    library: |taken, outputs| {
+        let bytes = taken.bytes(BYTES);
+        let tag = taken.numbers[TAG] as u8;
+        let length = library::field(bytes, tag, outputs[START].size_mut());
+        *outputs[LENGTH].size_mut() = length;
         copied(bytes, outputs)
     },
-    reference: |numbers, inputs, outputs| {
-        let bytes = inputs[0].bytes();
-        let range = reference::field_range(bytes, numbers[0] as u8);
-        *outputs[0].size_mut() = range.start;
-        *outputs[1].size_mut() = range.len();
+    reference: |taken, outputs| {
+        let bytes = taken.bytes(BYTES);
+        let range = reference::field_range(bytes, taken.numbers[TAG] as u8);
+        *outputs[START].size_mut() = range.start;
+        *outputs[LENGTH].size_mut() = range.len();
         copied(bytes, outputs)
     },
     table: Some(Table {
         of: "package",
-        columns: COLUMNS,
-        rows: &[
-            ("accepted", &["01", "02", "03", "05", "06", "07", "others"]),
-            ("refused", &["01", "02", "03", "05", "06", "07", "others"]),
-        ],
-        cell: |_, numbers, inputs| {
-            let read = reference::read_package(inputs[0].bytes());
+        columns,
+        rows: || {
+            ["accepted", "refused"]
+                .map(|row| (row.to_string(), columns()))
+                .to_vec()
+        },
+        cell: |_, taken| {
+            let read = reference::read_package(taken.bytes(BYTES));
             let row = if read.is_ok() { "accepted" } else { "refused" };
-            let mut tags = PACKAGE_TAGS.iter();
-            let column = tags.position(|&tag| usize::from(tag) == numbers[0]);
-            (row, COLUMNS[column.unwrap_or(PACKAGE)])
+            let tag = format!("{:02x}", taken.numbers[TAG]);
+            let known = columns().contains(&tag);
+            let column = if known { tag } else { OTHERS.to_string() };
+            (row.to_string(), column)
         },
     }),
-    groups: &[
-        ALL_TAGS,
-        ALL_TAGS_REFUSED,
-        ALL_TAGS_CHECK_FILE,
-        files::every_n::<PackageField>(),
-        files::prefixes::<PackageField>(),
-        files::one_fault::<PackageField>(),
-        files::two_faults::<PackageField>(),
-        files::order::<PackageField>(),
-        files::short::<PackageField>(),
-        files::other_kind::<PackageField>(),
-        files::damaged::<PackageField>(),
-    ],
-    least: &[],
+    groups: || {
+        vec![
+            ALL_TAGS,
+            ALL_TAGS_REFUSED,
+            ALL_TAGS_CHECK_FILE,
+            groups::every_n::<PackageField>(),
+            groups::prefixes::<PackageField>(),
+            groups::one_fault::<PackageField>(),
+            groups::two_faults::<PackageField>(),
+            groups::order::<PackageField>(),
+            groups::short::<PackageField>(),
+            groups::other_kind::<PackageField>(),
+            groups::damaged::<PackageField>(),
+        ]
+    },
+    ..readers::ENTRY
 };
 
+/// The column of the tags that a package doesn't have.
+const OTHERS: &str = "others";
+
 /// The columns: the tags of a package, and all others.
-const COLUMNS: &[&str] = &["01", "02", "03", "05", "06", "07", "others"];
+fn columns() -> Vec<String> {
+    let tags = File::Package.tags().iter();
+    let tags = tags.map(|tag| format!("{tag:02x}"));
+    tags.chain([OTHERS.to_string()]).collect()
+}
 
 /// Copies the part, whose start and length are written, to the last output.
-fn copied(bytes: &[u8], outputs: &mut [Lent]) -> u32 {
-    let [start, length] = [0, 1].map(|output| *outputs[output].size_mut());
+fn copied(bytes: &[u8], outputs: &mut Named<Lent>) -> u32 {
+    let [start, length] = [START, LENGTH].map(|name| *outputs[name].size_mut());
     let end = start.checked_add(length);
     let Some(part) = end.and_then(|end| bytes.get(start..end)) else {
         return OUTSIDE;
     };
-    outputs[2].bytes_mut()[..length].copy_from_slice(part);
+    outputs[PART].bytes_mut()[..length].copy_from_slice(part);
     DONE
 }
 
 /// A case with these bytes and this tag, and the start and the length where
 /// they are known without the reference.
-fn case(bytes: Lent, tag: u8, stated: Option<[usize; 2]>, generator: &mut Generator) -> Case {
-    let stated = stated.map(|values| {
-        let stated = values.into_iter().enumerate();
-        stated
-            .map(|(output, value)| Stated {
-                output,
-                index: 0,
-                value: value as u64,
-            })
-            .collect()
+fn case(bytes: Lent, tag: u8, part: Option<[usize; 2]>, generator: &mut Generator) -> Case {
+    let stated = part.map(|[start, length]| {
+        vec![
+            stated(START, 0, start as u64),
+            stated(LENGTH, 0, length as u64),
+        ]
     });
-    let part = Lent::any_bytes(bytes.len(), generator);
+    let outputs = Named::from([
+        (START, Lent::any_size(generator)),
+        (LENGTH, Lent::any_size(generator)),
+        (PART, Lent::any_bytes(bytes.len(), generator)),
+    ]);
+    let numbers = Named::from([(TAG, usize::from(tag))]);
     Case {
-        numbers: vec![tag.into()],
-        inputs: vec![bytes],
-        outputs: vec![Lent::any_size(generator), Lent::any_size(generator), part],
         answer: Some(DONE),
         stated,
+        ..Case::new(numbers, files::input(bytes), outputs)
     }
 }
 
 /// Where the content of a field starts in a package, and its length; 0 and 0
 /// for another tag.
-fn stated(fields: &[WrittenField], tag: u8) -> [usize; 2] {
+fn part(fields: &[WrittenField], tag: u8) -> [usize; 2] {
     let index = fields.iter().position(|field| field.tag == tag);
     index.map_or([0, 0], |index| {
         let start = join(&fields[..index]).len() + HEAD;
@@ -134,55 +153,52 @@ fn stated(fields: &[WrittenField], tag: u8) -> [usize; 2] {
     })
 }
 
-const ALL_TAGS: Group = Group {
-    name: "every n, all tags",
-    cases: |generator, each| {
-        for n in keyed::EVERY_N {
-            let m = keyed::some_m(n, generator)[n % 3];
-            let fields = files::any_fields(n, m, generator);
-            let bytes = Lent::with_bytes(&join(&fields[..PACKAGE]), generator);
-            for tag in 0..=255 {
-                let stated = stated(&fields[..PACKAGE], tag);
-                each(case(bytes.clone(), tag, Some(stated), generator));
-            }
-        }
-    },
-};
-
-const ALL_TAGS_REFUSED: Group = Group {
-    name: "refused packages, all tags",
-    cases: |generator, each| {
-        for n in [2, 3, 5, 9, 17, 33, 64] {
-            let m = 1 + generator.below(n - 1);
-            let fields = files::any_fields(n, m, generator);
-            let bytes = join(&fields[..PACKAGE]);
-            let mut large = bytes.clone();
-            large[8] = 8;
-            let shorter = bytes[..bytes.len() - 1].to_vec();
-            let longer = [&bytes[..], &[0]].concat();
-            for bytes in [large, shorter, longer] {
-                let bytes = Lent::with_bytes(&bytes, generator);
-                for tag in 0..=255 {
-                    each(case(bytes.clone(), tag, Some([0, 0]), generator));
-                }
-            }
-        }
+const ALL_TAGS: Group = Group::new("every n, all tags", |generator, each| {
+    for n in keyed::EVERY_N {
+        let m = keyed::some_m(n, generator)[n % 3];
+        let fields = any_fields(n, m, generator);
+        let package = File::Package.part(&fields);
+        let bytes = Lent::with_bytes(&join(package), generator);
         for tag in 0..=255 {
-            each(case(Lent::no_bytes(), tag, Some([0, 0]), generator));
+            let part = part(package, tag);
+            each(case(bytes.clone(), tag, Some(part), generator));
         }
-    },
-};
+    }
+});
 
-const ALL_TAGS_CHECK_FILE: Group = Group {
-    name: "check files, all tags",
-    cases: |generator, each| {
-        for n in [2, 3, 5, 9, 17, 33, 64] {
-            let m = 1 + generator.below(n - 1);
-            let bytes = join(&files::any_fields(n, m, generator));
-            let bytes = Lent::with_bytes(&bytes, generator);
-            for tag in 0..=255 {
-                each(case(bytes.clone(), tag, Some([0, 0]), generator));
-            }
+/// Bytes of which no field is handed back, with all tags.
+fn without_fields(bytes: &[u8], generator: &mut Generator, each: &mut dyn FnMut(Case)) {
+    let bytes = match bytes {
+        [] => Lent::no_bytes(),
+        _ => Lent::with_bytes(bytes, generator),
+    };
+    for tag in 0..=255 {
+        each(case(bytes.clone(), tag, Some([0, 0]), generator));
+    }
+}
+
+/// The sizes of the packages that are refused.
+const TRIED: [usize; 7] = [2, 3, 5, 9, 17, 33, 64];
+
+const ALL_TAGS_REFUSED: Group = Group::new("refused packages, all tags", |generator, each| {
+    for n in TRIED {
+        let m = 1 + generator.below(n - 1);
+        let mut fields = File::Package.part(&any_fields(n, m, generator)).to_vec();
+        let bytes = join(&fields);
+        let longer = [&bytes[..], &[0]].concat();
+        let h = index_of(&fields, tag::H);
+        set_value(&mut fields, h, 0, false, generator);
+        for bytes in [&join(&fields), &bytes[..bytes.len() - 1], &longer] {
+            without_fields(bytes, generator, each);
         }
-    },
-};
+    }
+    without_fields(&[], generator, each);
+});
+
+const ALL_TAGS_CHECK_FILE: Group = Group::new("check files, all tags", |generator, each| {
+    for n in TRIED {
+        let m = 1 + generator.below(n - 1);
+        let bytes = join(&any_fields(n, m, generator));
+        without_fields(&bytes, generator, each);
+    }
+});

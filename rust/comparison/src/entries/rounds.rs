@@ -1,12 +1,14 @@
 //! Rounds at the largest size, and at sizes just above a power of two, where
-//! many of the 2^d columns have no weight: the sizes, and what each slice holds.
+//! many of the 2^d columns have no weight: the sizes, what each slice holds, and
+//! the groups. Many more rounds from n = 33 on are compared with the package
+//! packed, since the reference takes about a hundred times as long there.
 
-use super::{keyed, DONE};
-use crate::case::Least;
+use super::keyed::{self, Keyed};
+use super::DONE;
+use crate::case::{Case, Group, Least};
+use crate::kinds::Kind;
 use reference::key::Sizes;
-use reference::large_field::{COORDINATES, K};
 use reference::samples::Generator;
-use reference::small_field::F;
 
 /// The largest n.
 pub const LARGEST: usize = 64;
@@ -17,28 +19,20 @@ pub const ABOVE_A_POWER: [usize; 5] = [33, 17, 9, 5, 3];
 /// The rounds in which any two slices hold all pairs of kinds.
 const PAIRS: usize = 25;
 
-/// The rounds at the largest size, and at each of the others.
-const ROUNDS: [usize; 2] = [40, PAIRS];
+/// The rounds at the largest size that are compared with the reference.
+const OF_REFERENCE: usize = 40;
 
-/// The least number of done calls of a group at the largest size.
-pub const fn done_at_largest(group: &'static str) -> Least {
-    Least {
-        group,
-        n: &[LARGEST],
-        answer: DONE,
-        count: 40,
-    }
-}
+/// The sizes m of many rounds at the largest size.
+const MANY_M: [usize; 3] = [1, 27, 63];
 
-/// The same at each size just above a power of two.
-pub const fn done_above_a_power(group: &'static str) -> Least {
-    Least {
-        group,
-        n: &ABOVE_A_POWER,
-        answer: DONE,
-        count: 12,
-    }
-}
+/// The rounds for each of these.
+const MANY: usize = 200;
+
+/// The other large sizes, all with the most digits.
+const LARGE: std::ops::Range<usize> = 33..LARGEST;
+
+/// The rounds for each of these.
+const AT_LARGE: usize = 4;
 
 /// One round: its number, the sizes, and the kinds of six slices.
 pub struct Round {
@@ -46,48 +40,95 @@ pub struct Round {
     pub number: usize,
     /// The sizes.
     pub sizes: Sizes,
-    /// What each of six slices holds, as an index of [`WORDS`].
-    pub kinds: [usize; 6],
+    /// What each of six slices holds.
+    pub kinds: [Kind; 6],
 }
 
-/// One of 0, 1, 2047 and any word.
-fn edge(generator: &mut Generator) -> u16 {
-    let any = generator.word();
-    [0, 1, F::LARGEST, any][generator.below(4)]
+/// An entry with a case for each round.
+pub trait InRounds: Keyed {
+    /// Hands over the cases with the slices of a round, one of them done.
+    fn in_round(round: &Round, generator: &mut Generator, each: &mut dyn FnMut(Case));
 }
 
-/// The words of a slice: random, of 0, 1, 2047 and others, all 0, all 1 and all
-/// 2047.
-pub const WORDS: [fn(usize, &mut Generator) -> Vec<u16>; 5] = [
-    |len, generator| generator.words(len),
-    |len, generator| (0..len).map(|_| edge(generator)).collect(),
-    |len, _| vec![0; len],
-    |len, _| vec![1; len],
-    |len, _| vec![F::LARGEST; len],
+/// The names of the groups.
+const NAMES: [&str; 4] = [
+    "n = 64, any m, words of all kinds",
+    "n just above a power of two, words of all kinds",
+    "n = 64, m = 1, 27 and 63, many rounds, by packed",
+    "n = 33 to 63, any m, by packed",
 ];
 
-/// A challenge of this kind; the fourth kind is one.
-pub fn challenge(kind: usize, generator: &mut Generator) -> Vec<u16> {
-    match kind {
-        3 => K::ONE.words().to_vec(),
-        _ => WORDS[kind](COORDINATES, generator),
-    }
+/// The groups of an entry with a case for each round.
+pub fn groups<E: InRounds>() -> Vec<Group> {
+    vec![
+        Group::new(NAMES[0], |generator, each| {
+            for number in 0..OF_REFERENCE {
+                E::in_round(&round(LARGEST, number), generator, each);
+            }
+        }),
+        Group::new(NAMES[1], |generator, each| {
+            for n in ABOVE_A_POWER {
+                for number in 0..PAIRS {
+                    E::in_round(&round(n, number), generator, each);
+                }
+            }
+        }),
+        at_largest::<E>(),
+        Group::new(NAMES[3], |generator, each| {
+            for n in LARGE {
+                for turn in 0..AT_LARGE {
+                    E::in_round(&round(n, n + 31 * turn), generator, each);
+                }
+            }
+        })
+        .by_packed(),
+    ]
 }
 
-/// Bits of this kind: random, all 0 or all 1.
-pub fn bits(kind: usize, len: usize, generator: &mut Generator) -> Vec<u8> {
-    keyed::BITS[kind % 3](len, generator)
+/// Many rounds at the largest size, with few, some and most rows.
+pub const fn at_largest<E: InRounds>() -> Group {
+    Group::new(NAMES[2], |generator, each| {
+        for m in MANY_M {
+            for number in 0..MANY {
+                let sizes = keyed::sizes(LARGEST, m);
+                let round = Round {
+                    sizes,
+                    ..round(LARGEST, number)
+                };
+                E::in_round(&round, generator, each);
+            }
+        }
+    })
+    .by_packed()
+}
+
+/// The done calls that each of these groups must have.
+pub fn least() -> Vec<Least> {
+    let done = |name, n: &[usize], m: &[usize], count| Least {
+        group: name,
+        n: n.to_vec(),
+        m: m.to_vec(),
+        answer: DONE,
+        count,
+    };
+    vec![
+        done(NAMES[0], &[LARGEST], &[], OF_REFERENCE),
+        done(NAMES[1], &ABOVE_A_POWER, &[], PAIRS),
+        done(NAMES[2], &[LARGEST], &MANY_M, MANY),
+        done(NAMES[3], &LARGE.collect::<Vec<_>>(), &[], AT_LARGE),
+    ]
 }
 
 /// What the slices hold: all pairs of kinds first, then random words and those
 /// of the edges.
-fn kinds(number: usize) -> [usize; 6] {
+fn kinds(number: usize) -> [Kind; 6] {
     let (a, b) = (number % 5, number / 5);
-    if number < PAIRS {
+    let kinds = if number < PAIRS {
         [a, a + b, a + 2 * b, a + 3 * b, a + 4 * b, b].map(|kind| kind % 5)
     } else {
         [0, 1, 2, 3, 4, 5].map(|slice| number >> slice & 1)
-    }
+    };
+    kinds.map(|kind| Kind::ALL[kind])
 }
 
 /// A round with this number. In every eighth m is n - 1; else it goes on by
@@ -102,15 +143,4 @@ pub fn round(n: usize, number: usize) -> Round {
         sizes: keyed::sizes(n, m),
         kinds: kinds(number),
     }
-}
-
-/// The rounds at the largest size.
-pub fn largest() -> impl Iterator<Item = Round> {
-    (0..ROUNDS[0]).map(|number| round(LARGEST, number))
-}
-
-/// The rounds at the sizes just above a power of two.
-pub fn above_a_power() -> impl Iterator<Item = Round> {
-    let rounds = |n| (0..ROUNDS[1]).map(move |number| round(n, number));
-    ABOVE_A_POWER.into_iter().flat_map(rounds)
 }

@@ -1,17 +1,120 @@
 //! Keys with positions: those that solve the key, and others.
 
-use super::rounds::{self, Round};
-use super::{keyed, DONE, TOP};
-use reference::samples::{in_order, quotient, Generator, Sample};
-use reference::small_field::F;
+use super::keyed::{self, Keyed};
+use super::rounds::Round;
+use super::{DONE, TOP};
+use crate::case::{Case, Group, Taken};
+use crate::kinds::{Kind, Wanted};
+use crate::slices::POSITIONS;
+use reference::key::Sizes;
+use reference::large_field::COORDINATES;
+use reference::samples::{self, Generator, Sample};
 
 /// A sample, and what prove answers for its positions, where it is known
 /// without the reference.
 pub type Witness = (Sample, Option<u32>);
 
+/// An entry that takes a key with positions.
+pub trait OnWitness: Keyed {
+    /// A case with the key and the positions of a witness.
+    fn of_witness(witness: &Witness, generator: &mut Generator) -> Case;
+}
+
+/// Orders that solve the key.
+pub const fn solving<E: OnWitness>() -> Group {
+    Group::new("every n, orders that solve the key", |generator, each| {
+        for n in keyed::EVERY_N {
+            for witness in solving_keys(n, generator) {
+                each(E::of_witness(&witness, generator));
+            }
+        }
+    })
+}
+
+/// Positions that don't solve the key.
+pub const fn others<E: OnWitness>() -> Group {
+    Group::new("every n, other positions", |generator, each| {
+        for n in keyed::EVERY_N {
+            for witness in other_positions(n, generator) {
+                each(E::of_witness(&witness, generator));
+            }
+        }
+    })
+}
+
+/// All positions of small keys.
+pub const fn all_positions<E: OnWitness>() -> Group {
+    Group::new("all positions for n = 2, 3, 4", |generator, each| {
+        for n in 2..=4 {
+            for m in 1..n {
+                for witness in all_positions_of(n, m, generator) {
+                    each(E::of_witness(&witness, generator));
+                }
+            }
+        }
+    })
+}
+
+/// The entries of x that the positions name; a spare code names none, and its
+/// row has zero tops.
+pub fn entries(x: &[u16], positions: &[u8]) -> Vec<u16> {
+    let entry = |&position: &u8| x.get(usize::from(position)).copied().unwrap_or(0);
+    positions.iter().map(entry).collect()
+}
+
+/// Whether the positions of a call solve its key.
+pub fn solves(taken: &Taken) -> bool {
+    let key = taken.key();
+    samples::solves(key.n, key.h, key.x, taken.bytes(POSITIONS))
+}
+
+/// H of this kind with which the positions of the sample solve each row but
+/// those with another sum than 0.
+pub fn rows_with_sums(
+    sample: &Sample,
+    kind: Kind,
+    sums: &[u16],
+    generator: &mut Generator,
+) -> Vec<u16> {
+    let entries = entries(&sample.x, &sample.positions);
+    let wanted = Wanted {
+        entries: &entries,
+        sums,
+    };
+    kind.rows(keyed::sizes(sample.n, sample.m), Some(wanted), generator)
+}
+
+/// H of this kind with which the positions of the sample solve each row.
+pub fn solved_rows(sample: &Sample, kind: Kind, generator: &mut Generator) -> Vec<u16> {
+    rows_with_sums(sample, kind, &vec![0; sample.m], generator)
+}
+
+/// Changes H, whose kind is given, so that row e alone has the top with this
+/// one bit. Some entry of x is not 0.
+pub fn unsolve_row(
+    sample: &mut Sample,
+    kind: Kind,
+    e: usize,
+    bit: usize,
+    generator: &mut Generator,
+) {
+    let mut sums = vec![0; sample.m];
+    sums[e] = 1 << bit;
+    sample.h = rows_with_sums(sample, kind, &sums, generator);
+}
+
+/// A key of these sizes that every order solves, with unit rows of which each
+/// has a second one.
+pub fn solved_by_unit_rows(sizes: Sizes, generator: &mut Generator) -> Sample {
+    let mut sample = Sample::solving(sizes.n, sizes.m, generator);
+    sample.x = vec![generator.word() | 1; sizes.n];
+    sample.h = solved_rows(&sample, Kind::Zero, generator);
+    sample
+}
+
 /// Keys of size n that the positions solve: of several m, and one that every
 /// order solves.
-pub fn solving(n: usize, generator: &mut Generator) -> Vec<Witness> {
+pub fn solving_keys(n: usize, generator: &mut Generator) -> Vec<Witness> {
     let mut list = Vec::new();
     for (round, m) in keyed::some_m(n, generator).into_iter().enumerate() {
         if n <= keyed::ALL_VARIANTS || round == n % 3 {
@@ -24,14 +127,25 @@ pub fn solving(n: usize, generator: &mut Generator) -> Vec<Witness> {
     list
 }
 
+/// Two indices below n that differ.
+pub fn two_indices(n: usize, generator: &mut Generator) -> (usize, usize) {
+    let from = generator.below(n);
+    (from, (from + 1 + generator.below(n - 1)) % n)
+}
+
+/// A spare code, where there is one.
+pub fn spare_code(sample: &Sample, generator: &mut Generator) -> Option<u8> {
+    let spare_codes = (1 << sample.d) - sample.n;
+    (spare_codes > 0).then(|| (sample.n + generator.below(spare_codes)) as u8)
+}
+
 /// Keys of size n with positions that don't solve them: two positions
 /// exchanged, one of them twice, one alone, a spare code.
-pub fn others(n: usize, generator: &mut Generator) -> Vec<Witness> {
+fn other_positions(n: usize, generator: &mut Generator) -> Vec<Witness> {
     let m = keyed::some_m(n, generator)[n % 3];
     let sample = Sample::solving(n, m, generator);
     let solved = Sample::solved_by_all(n, m, generator);
-    let from = generator.below(n);
-    let to = (from + 1 + generator.below(n - 1)) % n;
+    let (from, to) = two_indices(n, generator);
     let [mut exchanged, mut twice, mut spare] = [(); 3].map(|()| sample.positions.clone());
     exchanged.swap(from, to);
     twice[to] = twice[from];
@@ -43,9 +157,8 @@ pub fn others(n: usize, generator: &mut Generator) -> Vec<Witness> {
         (with(&solved, twice), Some(TOP)),
         (with(&solved, alone), Some(TOP)),
     ];
-    let spare_codes = (1 << sample.d) - n;
-    if spare_codes > 0 {
-        spare[to] = (n + generator.below(spare_codes)) as u8;
+    if let Some(code) = spare_code(&sample, generator) {
+        spare[to] = code;
         list.push((with(&sample, spare.clone()), Some(TOP)));
         list.push((with(&solved, spare), Some(TOP)));
     }
@@ -57,14 +170,12 @@ pub fn others(n: usize, generator: &mut Generator) -> Vec<Witness> {
 }
 
 /// Keys of this size, each with all positions below 2^d.
-pub fn all_positions(n: usize, m: usize, generator: &mut Generator) -> Vec<Witness> {
-    let mut zero = Sample::solving(n, m, generator);
-    zero.h.fill(0);
+fn all_positions_of(n: usize, m: usize, generator: &mut Generator) -> Vec<Witness> {
     let keys = [
         Sample::solving(n, m, generator),
         Sample::solving(n, m, generator),
         Sample::solved_by_all(n, m, generator),
-        zero,
+        solved_by_unit_rows(keyed::sizes(n, m), generator),
     ];
     let lists = keyed::all_lists(n, 1 << keys[0].d);
     let of_key = |key: &Sample| -> Vec<Witness> {
@@ -74,46 +185,34 @@ pub fn all_positions(n: usize, m: usize, generator: &mut Generator) -> Vec<Witne
     keys.iter().flat_map(of_key).collect()
 }
 
-/// The element of F with this number.
-fn element(word: u16) -> F {
-    F::from_word(word).expect("a word up to 2047")
-}
-
-/// Changes one word in each row of H so that the positions, which are an order,
-/// solve the key.
-fn solve(sample: &mut Sample) {
-    let entries = in_order(&sample.x, &sample.positions);
-    let Some(place) = entries.iter().rposition(|&entry| entry != 0) else {
-        return;
-    };
-    for row in sample.h.chunks_mut(sample.n) {
-        row[place] = 0;
-        let products = row.iter().zip(&entries);
-        let sum = products.fold(F::ZERO, |sum, (&h, &x)| sum + element(h) * element(x));
-        row[place] = quotient(sum.word(), entries[place]);
-    }
-}
-
 /// A key that the positions solve, with the slices of this round: H, x, u, v,
-/// the masks and the weights. One in four orders is 0 to n - 1.
+/// the masks and the weights. One in four orders is 0 to n - 1. The verifier's
+/// numbers are left out.
 pub fn of_round(round: &Round, generator: &mut Generator) -> Sample {
-    let mut sample = Sample::solving(round.sizes.n, round.sizes.m, generator);
+    let Sizes { n, m, d } = round.sizes;
     let [h, x, u, v, masks, alpha] = round.kinds;
-    for (words, kind) in [
-        (&mut sample.h, h),
-        (&mut sample.x, x),
-        (&mut sample.v, v),
-        (&mut sample.r, masks),
-        (&mut sample.s, masks),
-        (&mut sample.alpha, alpha),
-    ] {
-        *words = rounds::WORDS[kind](words.len(), generator);
-    }
-    sample.u = rounds::bits(u, sample.u.len(), generator);
-    if round.number % 4 == 3 {
-        sample.positions.sort_unstable();
-    }
-    solve(&mut sample);
+    let sizes = round.sizes;
+    let mut sample = Sample {
+        n,
+        m,
+        d,
+        h: Vec::new(),
+        x: x.words(sizes.x_words(), generator),
+        positions: match round.number % 4 {
+            3 => (0..n as u8).collect(),
+            _ => generator.order(n),
+        },
+        u: u.bits(sizes.bit_bytes(), generator),
+        v: v.words(sizes.correlation_words(), generator),
+        r: masks.words(sizes.mask_words(), generator),
+        s: masks.words(sizes.mask_words(), generator),
+        alpha: alpha.words(sizes.weight_words(), generator),
+        delta: Vec::new(),
+        q: Vec::new(),
+        masks: Vec::new(),
+        serial: 0,
+    };
+    sample.h = solved_rows(&sample, h, generator);
     sample
 }
 
@@ -129,12 +228,31 @@ pub fn with(sample: &Sample, positions: Vec<u8>) -> Sample {
 /// twice, or a row of H has another entry.
 pub fn unsolved(n: usize, m: usize, generator: &mut Generator) -> Sample {
     let mut sample = Sample::solving(n, m, generator);
-    let entries = in_order(&sample.x, &sample.positions);
-    match entries.iter().position(|&entry| entry != 0) {
-        Some(i) if generator.below(2) == 0 => {
-            sample.h[n * generator.below(m) + i] ^= 1 << generator.below(11);
-        }
-        _ => sample.positions[0] = sample.positions[n - 1],
+    if generator.below(2) == 0 && sample.x.iter().any(|&entry| entry != 0) {
+        let (e, bit) = (generator.below(m), generator.below(11));
+        unsolve_row(&mut sample, Kind::Random, e, bit, generator);
+    } else {
+        sample.positions[0] = sample.positions[n - 1];
     }
     sample
+}
+
+/// What prove writes for a sample whose positions solve the key: t and a, by
+/// the package packed.
+pub fn proof(sample: &Sample) -> (Vec<u8>, Vec<u16>) {
+    let mut t = vec![0; sample.n * sample.d];
+    let mut a = vec![0; COORDINATES * sample.d];
+    let answer = packed::prove(
+        sample.key(),
+        &sample.positions,
+        &sample.u,
+        &sample.v,
+        &sample.r,
+        &sample.s,
+        &sample.alpha,
+        &mut t,
+        &mut a,
+    );
+    assert_eq!(answer, DONE, "the positions solve the key");
+    (t, a)
 }

@@ -1,0 +1,263 @@
+//! Faults of one field, at one place, whose answers are known.
+
+use super::fields::{self, elements, holds, set_word, starts, value_refusals, Holds, HEAD};
+use super::Reader;
+use crate::entries::DONE;
+use reference::package::{join, WrittenField, CHECK_FILE_TAGS};
+use reference::samples::Generator;
+use reference::small_field::F;
+use reference::{Place, Refusal};
+
+/// The places of a field, in the order of the table.
+pub const PLACES: [Place; 5] = [
+    Place::Head,
+    Place::Tag,
+    Place::Length,
+    Place::Content,
+    Place::Values,
+];
+
+/// The refusals of a field at one of its places, in the order in which they are
+/// decided.
+pub fn refusals_at(place: Place, tag: u8) -> &'static [Refusal] {
+    match place {
+        Place::Head | Place::Content => &[Refusal::BytesMissing],
+        Place::Tag => &[Refusal::Tag],
+        Place::Length => &[Refusal::FieldLength],
+        Place::Values => value_refusals(tag),
+        Place::End => &[Refusal::BytesFollow],
+    }
+}
+
+/// A field by its index, and a place; the end comes after all fields.
+pub type Spot = (usize, Place);
+
+/// The spots of a file where a fault can be.
+pub fn spots<R: Reader>(fields: &[WrittenField]) -> Vec<Spot> {
+    let fields = R::FILE.part(fields);
+    let mut list = Vec::new();
+    for (index, field) in fields.iter().enumerate() {
+        for place in PLACES {
+            let empty = field.content.is_empty();
+            let possible = match place {
+                Place::Content => !empty,
+                Place::Values => !empty && !value_refusals(field.tag).is_empty(),
+                _ => true,
+            };
+            if possible {
+                list.push((index, place));
+            }
+        }
+    }
+    list.push((fields.len(), Place::End));
+    list
+}
+
+/// An element of a list.
+pub fn any_of<T: Copy>(list: &[T], generator: &mut Generator) -> T {
+    list[generator.below(list.len())]
+}
+
+/// A word above 2047.
+pub fn word_above(generator: &mut Generator) -> u16 {
+    const WORDS: [u16; 8] = [2048, 2049, 2303, 4095, 4096, 32_768, 63_488, 65_535];
+    match generator.below(4) {
+        0 => F::LARGEST + 1 + generator.below(usize::from(u16::MAX - F::LARGEST)) as u16,
+        _ => any_of(&WORDS, generator),
+    }
+}
+
+/// A file under change: its fields, the bytes that follow them, and where the
+/// bytes are cut.
+#[derive(Clone)]
+pub struct Draft {
+    /// The fields.
+    pub fields: Vec<WrittenField>,
+    following: Vec<u8>,
+    cut: Option<(usize, usize)>,
+}
+
+impl Draft {
+    /// The file of a reader in the list of a check file.
+    pub fn new<R: Reader>(fields: &[WrittenField]) -> Draft {
+        Draft {
+            fields: R::FILE.part(fields).to_vec(),
+            following: Vec::new(),
+            cut: None,
+        }
+    }
+
+    /// The bytes.
+    pub fn bytes(&self) -> Vec<u8> {
+        let mut bytes = join(&self.fields);
+        bytes.extend(&self.following);
+        if let Some((index, more)) = self.cut {
+            bytes.truncate(starts(&self.fields)[index] + more);
+        }
+        bytes
+    }
+
+    /// Cuts in a field, or before, when a cut is there already.
+    pub fn cut(&mut self, index: usize, more: usize) {
+        self.cut = Some(self.cut.map_or((index, more), |cut| cut.min((index, more))));
+    }
+
+    /// Puts a fault at this spot, and gives its refusal.
+    fn spoil(&mut self, (index, place): Spot, generator: &mut Generator) -> Refusal {
+        match place {
+            Place::Head => self.cut(index, generator.below(HEAD)),
+            Place::Tag => {
+                self.fields[index].tag = other_tag(self.fields[index].tag, generator);
+            }
+            Place::Length => {
+                let field = &mut self.fields[index];
+                field.length = other_length(field.length, generator);
+                // The content has the right length, or the wrong one.
+                if field.length < 1000 && generator.below(2) == 0 {
+                    field.content.resize(field.length.into(), 0);
+                }
+            }
+            Place::Content => {
+                let len = self.fields[index].content.len();
+                let more = any_of(&[0, len - 1, generator.below(len)], generator);
+                self.cut(index, HEAD + more);
+            }
+            Place::Values => return spoil_values(&mut self.fields[index], generator),
+            Place::End => self.following = following(generator),
+        }
+        // These places have one refusal for every tag.
+        refusals_at(place, 0)[0]
+    }
+}
+
+/// Another tag: that of a field, one with another bit, or any.
+pub fn other_tag(tag: u8, generator: &mut Generator) -> u8 {
+    loop {
+        let other = match generator.below(3) {
+            0 => any_of(&CHECK_FILE_TAGS, generator),
+            1 => tag ^ (1 << generator.below(8)),
+            _ => generator.number() as u8,
+        };
+        if other != tag {
+            return other;
+        }
+    }
+}
+
+/// Another length: off by a little, with another byte, or any.
+pub fn other_length(length: u16, generator: &mut Generator) -> u16 {
+    loop {
+        let other = match generator.below(8) {
+            0 | 1 => length.wrapping_add(1),
+            2 | 3 => length.wrapping_sub(1),
+            4 => length ^ (1 << generator.below(16)),
+            5 => length.swap_bytes(),
+            6 => any_of(&[0, 1, 2, 24, 256, 65_535], generator),
+            _ => generator.number() as u16,
+        };
+        if other != length {
+            return other;
+        }
+    }
+}
+
+/// Bytes that follow the last field.
+pub fn following(generator: &mut Generator) -> Vec<u8> {
+    let len = any_of(&[1, 1, 2, 3, 4, 24, 100], generator);
+    match generator.below(3) {
+        0 => vec![0; len],
+        1 => {
+            // The head of a field, and a part of it.
+            let mut bytes = vec![any_of(&CHECK_FILE_TAGS, generator), 0, 2, 2, 1];
+            bytes.truncate(len);
+            bytes
+        }
+        _ => (0..len).map(|_| generator.number() as u8).collect(),
+    }
+}
+
+/// Faults of the values of a field that has content and such refusals: one of
+/// them, and about every other time each that is decided later. The first.
+pub fn spoil_values(field: &mut WrittenField, generator: &mut Generator) -> Refusal {
+    let refusals = value_refusals(field.tag);
+    let (first, later) = refusals[generator.below(refusals.len())..]
+        .split_first()
+        .expect("a refusal at the place of values");
+    spoil_value(field, *first, generator);
+    for refusal in later {
+        if generator.below(2) == 0 {
+            spoil_value(field, *refusal, generator);
+        }
+    }
+    *first
+}
+
+/// Puts a value into a field, to which this refusal applies.
+fn spoil_value(field: &mut WrittenField, refusal: Refusal, generator: &mut Generator) {
+    match refusal {
+        Refusal::SizeN => {
+            field.content[0] = any_of(&[0, 1, 65, 66, 127, 128, 130, 192, 255], generator);
+        }
+        Refusal::SizeM => {
+            let n = field.content[0];
+            field.content[1] = any_of(&[0, n, n.wrapping_add(1), n | 128, 255], generator);
+        }
+        Refusal::Bit => {
+            let at = any_place(field.content.len(), generator);
+            field.content[at] = any_of(&[2, 3, 127, 128, 129, 254, 255], generator);
+        }
+        Refusal::KeyElement | Refusal::Coordinate => {
+            let at = any_place(elements(field), generator);
+            set_word(field, at, word_above(generator));
+        }
+        other => panic!("{other:?} is no refusal at the place of values"),
+    }
+}
+
+/// The first place, the last or any.
+fn any_place(len: usize, generator: &mut Generator) -> usize {
+    let any = generator.below(len);
+    any_of(&[0, len - 1, any, any], generator)
+}
+
+/// The bytes with faults at these spots, and the number of the first: places
+/// are tried field after field, and in their order.
+pub fn faulty<R: Reader>(
+    fields: &[WrittenField],
+    spots: &[Spot],
+    generator: &mut Generator,
+) -> (Vec<u8>, u32) {
+    let mut draft = Draft::new::<R>(fields);
+    // The last spot first, so that the right lengths of fields are known.
+    let mut spots = spots.to_vec();
+    spots.sort_unstable();
+    spots.dedup();
+    let mut number = DONE;
+    for spot in spots.into_iter().rev() {
+        number = draft.spoil(spot, generator).number();
+    }
+    (draft.bytes(), number)
+}
+
+/// A value of a field that holds words or bits: the largest that leaves the rows
+/// of H independent, or one above the limit.
+pub fn set_value(
+    fields: &mut [WrittenField],
+    index: usize,
+    at: usize,
+    right: bool,
+    generator: &mut Generator,
+) {
+    if holds(fields[index].tag) == Some(Holds::Bits) {
+        let above = any_of(&[2, 3, 128, 255], generator);
+        fields[index].content[at] = if right { 1 } else { above };
+        return;
+    }
+    let above = any_of(&[2048, word_above(generator)], generator);
+    let mut word = if right { F::LARGEST } else { above };
+    set_word(&mut fields[index], at, word);
+    while fields::dependent_rows(fields) {
+        word -= 1;
+        set_word(&mut fields[index], at, word);
+    }
+}

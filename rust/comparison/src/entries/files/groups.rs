@@ -1,0 +1,346 @@
+//! The groups of cases of an entry that takes the bytes of a file.
+
+use super::damage::{damaged_file, Pool};
+use super::faults::{any_of, faulty, following, set_value, spots, Draft};
+use super::fields::{any_fields, content_mut, elements, holds, value_refusals, Holds, HEAD};
+use super::{case, File, Reader};
+use crate::case::{decided, Case, Group};
+use crate::entries::{keyed, DONE};
+use crate::lent::Lent;
+use reference::package::{join, tag, WrittenField};
+use reference::samples::Generator;
+use reference::Refusal;
+
+/// 9: bytes are missing.
+const MISSING: u32 = 9;
+/// 10: "not the tag that comes next".
+const TAG: u32 = 10;
+/// 11: "not the length stated above".
+const LENGTH: u32 = 11;
+/// 12: "bytes follow the last field".
+const FOLLOW: u32 = 12;
+
+/// The groups of an entry that answers refusals.
+pub fn fault_groups<R: Reader>() -> Vec<Group> {
+    vec![
+        prefixes::<R>(),
+        appended::<R>(),
+        one_fault::<R>(),
+        sizes::<R>(),
+        each_value::<R>(),
+        two_faults::<R>(),
+        order::<R>(),
+        short::<R>(),
+        other_kind::<R>(),
+        damaged::<R>(),
+    ]
+}
+
+/// The bytes of the file in the list of a check file.
+fn file<R: Reader>(fields: &[WrittenField]) -> Vec<u8> {
+    join(R::FILE.part(fields))
+}
+
+/// Right files.
+pub const fn every_n<R: Reader>() -> Group {
+    Group::new("every n, right files", |generator, each| {
+        for n in keyed::EVERY_N {
+            for m in keyed::some_m(n, generator) {
+                for _ in 0..3 {
+                    let fields = R::fields(n, m, generator);
+                    each(case::<R>(&file::<R>(&fields), Some(DONE), generator));
+                }
+            }
+        }
+    })
+}
+
+/// The sizes of longer files of which every prefix is taken.
+const LONG: &[(usize, usize)] = &[(17, 8), (33, 12), (64, 63)];
+
+/// Every shorter part of a file, followed in the memory by what was cut, and in
+/// a small file also by anything.
+fn prefixes_of<R: Reader>(
+    bytes: &[u8],
+    small: bool,
+    generator: &mut Generator,
+    each: &mut dyn FnMut(Case),
+) {
+    for len in 0..bytes.len() {
+        let (part, next) = bytes.split_at(len);
+        if small {
+            each(case::<R>(part, Some(MISSING), generator));
+        }
+        let lent = Lent::with_bytes_before(part, next, generator);
+        each(R::case(lent, Some(MISSING), generator));
+    }
+}
+
+/// Every shorter part of some files.
+pub const fn prefixes<R: Reader>() -> Group {
+    Group::new("every prefix", |generator, each| {
+        for &(n, m) in R::SMALL {
+            let bytes = file::<R>(&R::fields(n, m, generator));
+            prefixes_of::<R>(&bytes, true, generator, each);
+        }
+        for &(n, m) in LONG {
+            let bytes = file::<R>(&any_fields(n, m, generator));
+            prefixes_of::<R>(&bytes, false, generator, each);
+        }
+    })
+}
+
+/// Right files with further bytes: any, the same file again, a field again,
+/// many bytes.
+pub const fn appended<R: Reader>() -> Group {
+    Group::new("every n, bytes appended", |generator, each| {
+        for n in keyed::EVERY_N {
+            let m = keyed::some_m(n, generator)[n % 3];
+            let fields = any_fields(n, m, generator);
+            let bytes = file::<R>(&fields);
+            let last = R::FILE.part(&fields).last().cloned();
+            let mut tails = vec![bytes.clone(), join(last.as_slice())];
+            tails.extend((1..=8).map(|len| vec![0; len]));
+            tails.extend((0..8).map(|_| following(generator)));
+            if n % 16 == 0 {
+                tails.extend([40_000, 65_536, 70_000].map(|len| vec![0x77; len]));
+            }
+            for tail in tails {
+                let longer = [&bytes[..], &tail].concat();
+                each(case::<R>(&longer, Some(FOLLOW), generator));
+            }
+        }
+    })
+}
+
+/// One fault at each place of each field.
+pub const fn one_fault<R: Reader>() -> Group {
+    Group::new(
+        "every n, one fault at each place of each field",
+        |generator, each| {
+            for n in keyed::EVERY_N {
+                let m = keyed::some_m(n, generator)[(n + 1) % 3];
+                let fields = any_fields(n, m, generator);
+                for spot in spots::<R>(&fields) {
+                    for _ in 0..if n < 10 { 8 } else { 2 } {
+                        let (bytes, number) = faulty::<R>(&fields, &[spot], generator);
+                        each(case::<R>(&bytes, Some(number), generator));
+                    }
+                }
+            }
+        },
+    )
+}
+
+/// Every other tag and many other lengths of each field.
+pub const fn heads<R: Reader>() -> Group {
+    Group::new("every other tag, other lengths", |generator, each| {
+        for &(n, m) in &R::SMALL[..3] {
+            let fields = any_fields(n, m, generator);
+            for (index, field) in R::FILE.part(&fields).iter().enumerate() {
+                for other in (0..=255).filter(|&other| other != field.tag) {
+                    let mut draft = Draft::new::<R>(&fields);
+                    draft.fields[index].tag = other;
+                    each(case::<R>(&draft.bytes(), Some(TAG), generator));
+                }
+                let bits = (0..16).map(|bit| field.length ^ (1 << bit));
+                for other in bits.chain(0..300).filter(|&other| other != field.length) {
+                    let mut draft = Draft::new::<R>(&fields);
+                    draft.fields[index].length = other;
+                    if other % 2 == 1 {
+                        draft.fields[index].content.resize(other.into(), 0);
+                    }
+                    each(case::<R>(&draft.bytes(), Some(LENGTH), generator));
+                }
+            }
+        }
+    })
+}
+
+/// The refusals that apply to these sizes where those of H are (3, 2).
+fn of_other_sizes(n: u8, m: u8) -> u32 {
+    let mut list = Vec::new();
+    if !keyed::EVERY_N.contains(&n.into()) {
+        list.push(Refusal::SizeN);
+    }
+    if m == 0 || m >= n {
+        list.push(Refusal::SizeM);
+    }
+    match list[..] {
+        [] => LENGTH,
+        _ => decided(value_refusals(tag::SIZES), &list).number(),
+    }
+}
+
+/// Sizes that are refused, and others that make the length of H wrong.
+pub const fn sizes<R: Reader>() -> Group {
+    Group::new("other sizes", |generator, each| {
+        let fields = any_fields(3, 2, generator);
+        for n in (0_u8..=66).chain([127, 128, 129, 130, 191, 192, 193, 254, 255]) {
+            let about_n = [0, 1, 2, n.saturating_sub(1), n, n.saturating_add(1)];
+            for m in about_n.into_iter().chain([64, 127, 128, 129, 254, 255]) {
+                if (n, m) != (3, 2) {
+                    let mut draft = Draft::new::<R>(&fields);
+                    *content_mut(&mut draft.fields, tag::SIZES) = vec![n, m];
+                    let answer = of_other_sizes(n, m);
+                    each(case::<R>(&draft.bytes(), Some(answer), generator));
+                }
+            }
+        }
+    })
+}
+
+/// Each word and each bit of small files: the largest value or one above it, in
+/// a whole file and in one that is cut in that field.
+pub const fn each_value<R: Reader>() -> Group {
+    Group::new("each value, about the largest", |generator, each| {
+        for (round, &(n, m)) in R::SMALL[..5].iter().enumerate() {
+            let fields = R::fields(n, m, generator);
+            for (index, field) in R::FILE.part(&fields).iter().enumerate() {
+                if !matches!(holds(field.tag), Some(Holds::Words | Holds::Bits)) {
+                    continue;
+                }
+                let above = value_refusals(field.tag)[0].number();
+                for at in 0..elements(field) {
+                    let right = (at + round) % 4 == 0;
+                    let mut draft = Draft::new::<R>(&fields);
+                    set_value(&mut draft.fields, index, at, right, generator);
+                    let answer = if right { DONE } else { above };
+                    each(case::<R>(&draft.bytes(), Some(answer), generator));
+                    // In a cut field the bytes are missing first.
+                    draft.cut(index, HEAD + field.content.len() - 1);
+                    each(case::<R>(&draft.bytes(), Some(MISSING), generator));
+                }
+            }
+        }
+    })
+}
+
+/// Two faults, at each pair of places: the first in the order of the table
+/// decides.
+pub const fn two_faults<R: Reader>() -> Group {
+    Group::new("two faults, at each pair of places", |generator, each| {
+        for (n, m) in R::SMALL[1..7].repeat(3) {
+            let fields = any_fields(n, m, generator);
+            let spots = spots::<R>(&fields);
+            for (round, &first) in spots.iter().enumerate() {
+                for &second in &spots[round + 1..] {
+                    let (bytes, number) = faulty::<R>(&fields, &[first, second], generator);
+                    each(case::<R>(&bytes, Some(number), generator));
+                }
+            }
+        }
+    })
+}
+
+/// The file with this field left out, put before each other, and exchanged with
+/// those before it, each with its answer.
+fn other_orders(fields: &[WrittenField], index: usize) -> Vec<(Vec<WrittenField>, u32)> {
+    let last = fields.len() - 1;
+    let mut without = fields.to_vec();
+    let gone = without.remove(index);
+    let answer = if index == last { MISSING } else { TAG };
+    let mut list = vec![(without, answer)];
+    for place in 0..=fields.len() {
+        let mut twice = fields.to_vec();
+        twice.insert(place, gone.clone());
+        // The last field twice is followed by itself.
+        let follows = place > last || (place == last && index == last);
+        list.push((twice, if follows { FOLLOW } else { TAG }));
+    }
+    for other in 0..index {
+        let mut exchanged = fields.to_vec();
+        exchanged.swap(index, other);
+        list.push((exchanged, TAG));
+    }
+    list
+}
+
+/// Fields that are exchanged, repeated or left out.
+pub const fn order<R: Reader>() -> Group {
+    Group::new(
+        "fields exchanged, repeated or left out",
+        |generator, each| {
+            for &(n, m) in R::SMALL {
+                let fields = any_fields(n, m, generator);
+                let fields = R::FILE.part(&fields);
+                for index in 0..fields.len() {
+                    for (list, answer) in other_orders(fields, index) {
+                        each(case::<R>(&join(&list), Some(answer), generator));
+                    }
+                }
+            }
+        },
+    )
+}
+
+/// One or two bytes after each field, with another tag than the next.
+fn after_each_field<R: Reader>(generator: &mut Generator, each: &mut dyn FnMut(Case)) {
+    for &(n, m) in R::SMALL {
+        let all = any_fields(n, m, generator);
+        let fields = R::FILE.part(&all);
+        for index in 0..=fields.len() {
+            let start = join(&fields[..index]);
+            let end = index == fields.len();
+            let answer = if end { FOLLOW } else { MISSING };
+            for len in [1, 2] {
+                let tag = all.get(index).map_or(0, |field| field.tag ^ 0x80);
+                let bytes = [&start[..], &[tag, 0][..len]].concat();
+                each(case::<R>(&bytes, Some(answer), generator));
+            }
+        }
+    }
+}
+
+/// Short inputs: none, all of one byte, some of two, and any bytes.
+pub const fn short<R: Reader>() -> Group {
+    Group::new("empty, short and random inputs", |generator, each| {
+        each(R::case(Lent::no_bytes(), Some(MISSING), generator));
+        each(case::<R>(&[], Some(MISSING), generator));
+        for first in 0..=255 {
+            each(case::<R>(&[first], Some(MISSING), generator));
+            let second = generator.number() as u8;
+            each(case::<R>(&[first, second], Some(MISSING), generator));
+            each(case::<R>(&[tag::SIZES, first], Some(MISSING), generator));
+            let answer = if first == tag::SIZES { MISSING } else { TAG };
+            each(case::<R>(&[first, 0, 2], Some(answer), generator));
+        }
+        for _ in 0..1_000 {
+            let len = generator.below(60);
+            let bytes: Vec<u8> = (0..len)
+                .map(|_| any_of(&[0, 1, 2, 3, generator.number() as u8], generator))
+                .collect();
+            each(case::<R>(&bytes, None, generator));
+        }
+        after_each_field::<R>(generator, each);
+    })
+}
+
+/// A package where a check file is read, and the reverse.
+pub const fn other_kind<R: Reader>() -> Group {
+    Group::new("every n, the other kind of file", |generator, each| {
+        for n in keyed::EVERY_N {
+            for m in keyed::some_m(n, generator) {
+                let fields = any_fields(n, m, generator);
+                let (other, answer) = match R::FILE {
+                    File::Package => (File::CheckFile, FOLLOW),
+                    File::CheckFile => (File::Package, MISSING),
+                };
+                let bytes = join(other.part(&fields));
+                each(case::<R>(&bytes, Some(answer), generator));
+            }
+        }
+    })
+}
+
+/// Files with one to three changes, of H too.
+pub const fn damaged<R: Reader>() -> Group {
+    Group::new("damaged files", |generator, each| {
+        let pool = Pool::new::<R>(generator);
+        for _ in 0..R::DAMAGED {
+            let bytes = damaged_file::<R>(&pool, generator);
+            each(case::<R>(&bytes, None, generator));
+        }
+    })
+    .with_any_rows()
+}

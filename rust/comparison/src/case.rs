@@ -44,7 +44,7 @@ pub type Call = fn(&Taken, &mut Named<Lent>) -> u32;
 /// A public entry.
 #[derive(Clone, Copy)]
 pub struct Entry {
-    /// The name in document 01.
+    /// The name in the specification.
     pub name: &'static str,
     /// The answers that are no refusal.
     pub done: &'static [u32],
@@ -172,7 +172,7 @@ pub struct Case {
     pub outputs: Named<Lent>,
     /// The answer, where the case is made for one.
     pub answer: Option<u32>,
-    /// What the outputs hold after the call, where document 01 states it.
+    /// What the outputs hold after the call, where the specification states it.
     pub stated: Option<Vec<Stated>>,
 }
 
@@ -223,7 +223,7 @@ impl DerefMut for Case {
     }
 }
 
-/// An element of an output that document 01 states.
+/// An element of an output that the specification states.
 #[derive(Clone, Copy, Debug, PartialEq, Eq)]
 pub struct Stated {
     /// The name of the output.

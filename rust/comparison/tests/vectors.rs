@@ -225,7 +225,7 @@ fn other_lines() {
     assert!(difference(name, &content.replace("\nline ", "\nlines ")).is_some());
 }
 
-/// The entries that the vectors call: those of document 01, and check.
+/// The entries that the vectors call: those of the specification, and check.
 fn entries() -> Vec<Entry> {
     let last = ALL.iter().position(|entry| entry.name == check::CHECK.name);
     ALL[..=last.expect("an entry")].to_vec()

@@ -2,7 +2,7 @@
 
 /// A refusal of the table in "Public entries and what they turn down":
 /// "a refusal is an answer with its number".
-#[derive(Clone, Copy, Debug, PartialEq, Eq, PartialOrd, Ord, Hash)]
+#[derive(Clone, Copy, Debug, PartialEq, Eq, Hash)]
 pub enum Refusal {
     /// 1: "n below 2 or above 64".
     SizeN,

@@ -192,7 +192,7 @@ fn stated_tops(first: usize, d: usize, tops: &[u16]) -> Vec<Stated> {
         .collect()
 }
 
-const EXAMPLES: Group = Group::new("examples of document 01", |generator, each| {
+const EXAMPLES: Group = Group::new("examples of the specification", |generator, each| {
     let mut case = done_with(&Sample::key_a(), generator);
     let mut list = vec![stated(T, 0, 1_u16), stated(T, 1, 1_u16)];
     for (j, word) in [5, 5, 10].into_iter().enumerate() {

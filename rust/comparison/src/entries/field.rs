@@ -299,7 +299,7 @@ const RANDOM_FAULTS: Group = Group::new("random faults", |generator, each| {
     }
 });
 
-/// A product that document 01 states.
+/// A product that the specification states.
 fn product(generator: &mut Generator, a: &[u16], b: &[u16], product: &[u16]) -> Case {
     let words = product.iter().enumerate();
     let words = words.map(|(index, &word)| stated(OUT, index, word));
@@ -309,7 +309,7 @@ fn product(generator: &mut Generator, a: &[u16], b: &[u16], product: &[u16]) -> 
     }
 }
 
-const EXAMPLES: Group = Group::new("examples of document 01", |generator, each| {
+const EXAMPLES: Group = Group::new("examples of the specification", |generator, each| {
     // Examples in F, at Y^i and Y^j: Y^i times Y^j is Y^(i + j).
     for (a, b, word) in [(1024, 2, 5), (1024, 1024, 517), (2047, 2, 2043)] {
         for i in 0..COORDINATES {

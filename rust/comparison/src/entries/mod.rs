@@ -26,7 +26,7 @@ pub mod values;
 pub mod verify;
 pub mod witnesses;
 
-/// All entries, in the order of document 01, then the check of perkcheck, demand
+/// All entries, in the order of the specification, then the check of perkcheck, demand
 /// 3 and completeness.
 pub const ALL: &[Entry] = &[
     field::SUM,
@@ -61,7 +61,7 @@ fn number(answer: Result<(), Refusal>) -> u32 {
     answer.map_or_else(Refusal::number, |()| DONE)
 }
 
-/// An element of an output that document 01 states.
+/// An element of an output that the specification states.
 fn stated(output: &'static str, index: usize, value: impl Into<u64>) -> Stated {
     let value = value.into();
     Stated {

@@ -125,7 +125,7 @@ impl InRounds for Prove {
     }
 }
 
-const EXAMPLES: Group = Group::new("examples of document 01", |generator, each| {
+const EXAMPLES: Group = Group::new("examples of the specification", |generator, each| {
     let key_a = Sample::key_a();
     let mut accepted = case(&key_a, Some(DONE), generator);
     let mut list = vec![stated(T, 0, 1_u16), stated(T, 1, 1_u16)];

@@ -156,7 +156,7 @@ const ALL_T: Group = Group::new("all t for n = 2, 3, 4", |generator, each| {
     }
 });
 
-const EXAMPLES: Group = Group::new("examples of document 01", |generator, each| {
+const EXAMPLES: Group = Group::new("examples of the specification", |generator, each| {
     let mut case = of_sample::<Values>(&Sample::key_a(), generator);
     case.set_bytes(T, &[1, 1]);
     let values = [5, 5, 10].into_iter().enumerate();

@@ -64,8 +64,7 @@ pub fn entries(x: &[u16], positions: &[u8]) -> Vec<u16> {
 
 /// Whether the positions of a call solve its key.
 pub fn solves(taken: &Taken) -> bool {
-    let key = taken.key();
-    samples::solves(key.n, key.h, key.x, taken.bytes(POSITIONS))
+    samples::solved(taken.key(), taken.bytes(POSITIONS))
 }
 
 /// H of this kind with which the positions of the sample solve each row but

@@ -7,7 +7,7 @@ mod rows;
 pub use generator::Generator;
 pub use lent::{Lent, Material};
 pub use rows::{
-    in_order, independent, independent_rows, orthogonal_row, quotient, solved, solves, unit_rows,
+    in_order, independent, independent_rows, orthogonal_row, quotient, solved, unit_rows,
 };
 
 use crate::entries::{constraints, prove, values, verify, Verdict};

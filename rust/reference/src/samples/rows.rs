@@ -34,12 +34,6 @@ pub fn solved(key: Key<'_>, positions: &[u8]) -> bool {
     })
 }
 
-/// As [`solved`], for the key of n, H and x.
-pub fn solves(n: usize, h: &[u16], x: &[u16], positions: &[u8]) -> bool {
-    let m = h.len() / n;
-    solved(Key { n, m, h, x }, positions)
-}
-
 /// The word that times this one, which isn't 0, is a product.
 pub fn quotient(product: u16, divisor: u16) -> u16 {
     let inverse = small(divisor).inverse().expect("the divisor isn't 0");

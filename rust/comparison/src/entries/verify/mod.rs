@@ -139,7 +139,7 @@ fn balanced(mut case: Case) -> Case {
     case.answering(Some(DONE))
 }
 
-const EXAMPLES: Group = Group::new("examples of document 01", |generator, each| {
+const EXAMPLES: Group = Group::new("examples of the specification", |generator, each| {
     for (word, answer) in [(5, DONE), (4, REJECTED)] {
         let mut case = of_sample::<Verify>(&Sample::key_a(), generator);
         let mut a = vec![0; COORDINATES];

@@ -13,14 +13,14 @@ fn refused(a: &[u16], b: &[u16], out: &[u16]) -> Answer
     ensures { λ r. ⌜ r ≡ firstOf (rows (now (a .entry)) (now (b .entry)) (now (out .entry))) ⌝ }
 {
     let level = Level::of(FIRST);
-    let n = level.coordinates;
-    if a.len() != n {
+    let coordinates = level.coordinates;
+    if a.len() != coordinates {
         return Answer::Refused(Refusal::SLICE_LENGTH);
     }
-    if b.len() != n {
+    if b.len() != coordinates {
         return Answer::Refused(Refusal::SLICE_LENGTH);
     }
-    if out.len() != n {
+    if out.len() != coordinates {
         return Answer::Refused(Refusal::SLICE_LENGTH);
     }
     if field::excess(a, FIRST) != 0 {

@@ -10,6 +10,7 @@ ghost use Rattle.verifier.specs.Entry.{verifyOutcome};
 ghost use Rattle.checkfile.specs.Checking.{checkNumber, content, Accepts, packageOf, checkOf, verdictOf, checking};
 ghost use Rattle.checkfile.specs.Line.{decimal, saidOf, printed};
 use key::Key;
+use layout::Row;
 use package::Contents;
 use package::Read;
 use refusal::Refusal;
@@ -86,14 +87,14 @@ fn judge_with(bytes: &[u8], key: Key, h: &[u16], x: &[u16], a: &[u16]) -> Verdic
     ensures { λ r. ⌜ r ≡ verifyOutcome (levelAt FIRST) key (now (h .entry)) (now (x .entry)) (content (levelAt FIRST) (now (bytes .entry)) 0x06) (words (content (levelAt FIRST) (now (bytes .entry)) 0x11)) (words (content (levelAt FIRST) (now (bytes .entry)) 0x13)) (words (content (levelAt FIRST) (now (bytes .entry)) 0x12)) (words (content (levelAt FIRST) (now (bytes .entry)) 0x14)) (now (a .entry)) ⌝ }
 {
     let mut q = [0u16; ELEMENTS];
-    let q_len = load(bytes, 0x11, &mut q);
+    let q_len = load(bytes, Row::Q, &mut q);
     let mut masks = [0u16; MASKS];
-    let masks_len = load(bytes, 0x12, &mut masks);
+    let masks_len = load(bytes, Row::MASKS, &mut masks);
     let mut delta = [0u16; ONE];
-    let delta_len = load(bytes, 0x13, &mut delta);
+    let delta_len = load(bytes, Row::DELTA, &mut delta);
     let mut alpha = [0u16; VALUES];
-    let alpha_len = load(bytes, 0x14, &mut alpha);
-    let t = package::check_field(bytes, 0x06);
+    let alpha_len = load(bytes, Row::ALPHA, &mut alpha);
+    let t = package::check_field(bytes, Row::T);
     verifier::verify(
         key,
         h,
@@ -113,11 +114,11 @@ fn judge(bytes: &[u8], key: Key) -> Verdict
     ensures { λ r. ⌜ r ≡ verdictOf (levelAt FIRST) (packageOf (levelAt FIRST) (now (bytes .entry))) (checkOf (levelAt FIRST) (now (bytes .entry))) ⌝ }
 {
     let mut h = [0u16; MATRIX];
-    let h_len = load(bytes, 0x02, &mut h);
+    let h_len = load(bytes, Row::H, &mut h);
     let mut x = [0u16; VECTOR];
-    let x_len = load(bytes, 0x03, &mut x);
+    let x_len = load(bytes, Row::X, &mut x);
     let mut a = [0u16; PROOF];
-    let a_len = load(bytes, 0x07, &mut a);
+    let a_len = load(bytes, Row::A, &mut a);
     judge_with(bytes, key, &h[..h_len], &x[..x_len], &a[..a_len])
 }
 
@@ -184,12 +185,12 @@ fn put_contents(contents: Contents, out: &mut [u8]) -> usize
     requires { ⌜ 96 ≤ length (now out) ⌝ }
     ensures { λ r. ⌜ (now (out .exit) ≡ put 0 (saidOf contents) (now (out .entry))) × (r ≡ length (saidOf contents)) × (r ≤ 74) ⌝ }
 {
-    let serial = put_text(b"serial", b' ', 0, out);
-    let n = put_number(contents.serial as u64, b' ', serial, out);
-    let n = put_text(b"n", b' ', n, out);
-    let m = put_number(contents.n as u64, b' ', n, out);
-    let m = put_text(b"m", b' ', m, out);
-    put_number(contents.m as u64, b' ', m, out)
+    let at = put_text(b"serial", b' ', 0, out);
+    let at = put_number(contents.serial as u64, b' ', at, out);
+    let at = put_text(b"n", b' ', at, out);
+    let at = put_number(contents.n as u64, b' ', at, out);
+    let at = put_text(b"m", b' ', at, out);
+    put_number(contents.m as u64, b' ', at, out)
 }
 
 // The line for an answer, at the start of out; answers its length. Without room for a line it writes nothing and answers 0.

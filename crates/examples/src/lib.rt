@@ -1,5 +1,5 @@
 // The starred examples of the specification as statements about the definitions, and callers that rely on the contracts of the
-// entries alone.
+// entries and on laws of their definitions.
 ghost use mathlib.Core.Path.{_≡_};
 ghost use Prim.Native.Nat.{ℕ, _+_, _<_};
 ghost use Rattle.refusal.specs.declared.Answer.the-variants.{Done};

@@ -59,8 +59,8 @@ pub fn store(ws: &[u64], s: &mut [u16], at: usize, level: usize)
     ensures { λ _. ⌜ ((x : K (levelAt level) .Carrier) → Holds (levelAt level) (now (ws .entry)) x → now (s .exit) ≡ put at (words (levelAt level) x) (now (s .entry))) ⌝ }
 {
     let l = Level::of(level);
-    let n = l.coordinates;
-    for i in 0..n {
+    let coordinates = l.coordinates;
+    for i in 0..coordinates {
         s[at + i] = coordinate(ws, i);
     }
 }
@@ -71,9 +71,9 @@ pub fn nonzero(ws: &[u64], level: usize) -> u16
     ensures { λ r. ⌜ ((x : K (levelAt level) .Carrier) → Holds (levelAt level) (now (ws .entry)) x → eqb r 0 ≡ isZero (levelAt level) x) ⌝ }
 {
     let l = Level::of(level);
-    let n = l.coordinates;
+    let coordinates = l.coordinates;
     let mut any: u16 = 0;
-    for i in 0..n {
+    for i in 0..coordinates {
         any = any | coordinate(ws, i);
     }
     any
@@ -97,8 +97,8 @@ fn times_z(x: u64, level: usize) -> u64
 {
     let l = Level::of(level);
     let rule = (1u64 << l.width) + (1u64 << l.tap) + 1;
-    let h = (x >> (l.width - 1)) & 0x0001_0001_0001_0001;
-    (x << 1) ^ (h * rule)
+    let highest = (x >> (l.width - 1)) & 0x0001_0001_0001_0001;
+    (x << 1) ^ (highest * rule)
 }
 
 // The coordinates one place up in a word, with b put in below.
@@ -166,10 +166,10 @@ fn word(table: &[u64], at: usize, f: u64, level: usize) -> u64
     ensures { λ r. ⌜ ((x : K (levelAt level) .Carrier) → f < 2 ^ levelAt level .width → Tabulates (levelAt level) (now (table .entry)) x → (j : ℕ) → j < 4 → 4 * at + j < levelAt level .coordinates → lane r j ≡ getD (words (levelAt level) (K (levelAt level) .mul (embed (levelAt level) .map (small (levelAt level) f)) x)) (4 * at + j) 0) ⌝ }
 {
     let l = Level::of(level);
-    let n = l.width;
+    let width = l.width;
     let w = room(level);
     let mut x: u64 = 0;
-    for k in 0..n {
+    for k in 0..width {
         x = x ^ (table[w * k + at] & ((f >> k) % 2 * 0xffff_ffff_ffff_ffff));
     }
     x
@@ -212,9 +212,9 @@ fn add_word(parts: &mut [u64], q: usize, x: u64, f: u64, level: usize)
     ensures others { λ _. ⌜ ((k p : ℕ) → p < room (levelAt level) → (p ≡ q → ⊥) → getD (now (parts .exit)) (room (levelAt level) * k + p) 0 ≡ getD (now (parts .entry)) (room (levelAt level) * k + p) 0) ⌝ }
 {
     let l = Level::of(level);
-    let n = l.width;
+    let width = l.width;
     let w = room(level);
-    for k in 0..n {
+    for k in 0..width {
         let at = w * k + q;
         parts[at] = parts[at] ^ (x & ((f >> k) % 2 * 0xffff_ffff_ffff_ffff));
     }

@@ -22,10 +22,10 @@ pub fn product(a: u16, b: u16, level: usize) -> u16
     ensures { λ r. ⌜ (a ≤ levelAt level .limit → b ≤ levelAt level .limit → r ≡ word (levelAt level) (F (levelAt level) .mul (small (levelAt level) a) (small (levelAt level) b))) ⌝ }
 {
     let l = Level::of(level);
-    let n = l.width;
+    let width = l.width;
     let mut z: u16 = 0;
     let mut y = b;
-    for k in 0..n {
+    for k in 0..width {
         z = z ^ (y & ((a >> k) % 2 * 0xffff));
         y = times_z(y, level);
     }

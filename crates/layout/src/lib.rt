@@ -45,9 +45,28 @@ impl Row {
         kind: Kind::Sizes,
     };
 
-    // The tag of the serial.
+    // The tags of the others.
+    pub const H: u8 = 0x02;
+
+    pub const X: u8 = 0x03;
+
     pub const SERIAL: u8 = 0x05;
+
+    pub const T: u8 = 0x06;
+
+    pub const A: u8 = 0x07;
+
+    pub const Q: u8 = 0x11;
+
+    pub const MASKS: u8 = 0x12;
+
+    pub const DELTA: u8 = 0x13;
+
+    pub const ALPHA: u8 = 0x14;
 }
+
+// The bytes of tag and length.
+pub const HEAD: usize = 3;
 
 // Where a content stands in the bytes lent.
 pub struct Part {
@@ -150,7 +169,7 @@ fn read_row(s: &[u8], at: usize, row: Row) -> Answer
     let tag = row.tag;
     let len = row.len;
     let kind = row.kind;
-    if s.len() - at < 3 {
+    if s.len() - at < HEAD {
         return Answer::Refused(Refusal::BYTES_MISSING);
     }
     let found = s[at];
@@ -161,7 +180,7 @@ fn read_row(s: &[u8], at: usize, row: Row) -> Answer
     if stated != len {
         return Answer::Refused(Refusal::FIELD_LENGTH);
     }
-    let start = at + 3;
+    let start = at + HEAD;
     if s.len() - start < len {
         return Answer::Refused(Refusal::BYTES_MISSING);
     }
@@ -178,12 +197,12 @@ fn key_row(k: usize, key: Key) -> Row
     match k {
         0 => Row::SIZES,
         1 => Row {
-            tag: 0x02,
+            tag: Row::H,
             len: 2 * len.matrix,
             kind: Kind::Elements,
         },
         _ => Row {
-            tag: 0x03,
+            tag: Row::X,
             len: 2 * len.vector,
             kind: Kind::Elements,
         },
@@ -204,12 +223,12 @@ fn group_row(k: usize, key: Key) -> Row
             kind: Kind::Any,
         },
         1 => Row {
-            tag: 0x06,
+            tag: Row::T,
             len: len.bits,
             kind: Kind::Bits,
         },
         _ => Row {
-            tag: 0x07,
+            tag: Row::A,
             len: 2 * (len.one * d),
             kind: Kind::Coordinates,
         },
@@ -225,22 +244,22 @@ fn check_row(k: usize, key: Key) -> Row
     let d = key.degree();
     match k {
         0 => Row {
-            tag: 0x11,
+            tag: Row::Q,
             len: 2 * len.elements,
             kind: Kind::Coordinates,
         },
         1 => Row {
-            tag: 0x12,
+            tag: Row::MASKS,
             len: 2 * (len.one * (d - 1)),
             kind: Kind::Coordinates,
         },
         2 => Row {
-            tag: 0x13,
+            tag: Row::DELTA,
             len: 2 * len.one,
             kind: Kind::Coordinates,
         },
         _ => Row {
-            tag: 0x14,
+            tag: Row::ALPHA,
             len: 2 * len.values,
             kind: Kind::Coordinates,
         },
@@ -274,7 +293,7 @@ fn walk(s: &[u8], key: Key, start: usize, from: usize, to: usize) -> Step
         if let Answer::Refused(refusal) = answer {
             return Step::Refused(refusal);
         }
-        at = at + 3 + row.len;
+        at = at + HEAD + row.len;
         k += 1;
     }
     Step::Next(at)
@@ -289,7 +308,7 @@ pub fn read_file(s: &[u8], count: usize) -> Answer
     if let Answer::Refused(_) = sizes {
         return sizes;
     }
-    let step = walk(s, key_at(s, 3), 5, 1, count);
+    let step = walk(s, key_at(s, HEAD), 5, 1, count);
     match step {
         Step::Refused(refusal) => Answer::Refused(refusal),
         Step::Next(end) => {
@@ -314,11 +333,11 @@ pub fn part_of(key: Key, count: usize, tag: u8) -> Part
         let len = row.len;
         if row.tag == tag {
             return Part {
-                start: at + 3,
+                start: at + HEAD,
                 len: len,
             };
         }
-        at = at + 3 + len;
+        at = at + HEAD + len;
         k += 1;
     }
     Part { start: 0, len: 0 }

@@ -47,7 +47,7 @@ fn read_fields(bytes: &[u8], count: usize) -> Read
     match answer {
         Answer::Refused(refusal) => Read::Refused(refusal),
         Answer::Done => {
-            let key = layout::key_at(bytes, 3);
+            let key = layout::key_at(bytes, layout::HEAD);
             let start = layout::part_of(key, count, Row::SERIAL).start;
             Read::Fields(Contents {
                 n: key.n,
@@ -67,7 +67,7 @@ fn located(bytes: &[u8], count: usize, tag: u8) -> Part
     if let Answer::Refused(_) = answer {
         return Part { start: 0, len: 0 };
     }
-    layout::part_of(layout::key_at(bytes, 3), count, tag)
+    layout::part_of(layout::key_at(bytes, layout::HEAD), count, tag)
 }
 
 // The bytes of that part.
@@ -115,7 +115,7 @@ pub fn check_field(bytes: &[u8], tag: u8) -> &[u8]
     requires { ⌜ firstOf (fileTests (levelAt FIRST) (checkFileRows (levelAt FIRST) (keyOf (now bytes))) (now bytes)) ≡ Done ⌝ }
     ensures { λ r. ⌜ IsPart r (bytes .entry) (fieldPart (levelAt FIRST) (checkFileRows (levelAt FIRST)) (now (bytes .entry)) tag) ⌝ }
 {
-    let p = layout::part_of(layout::key_at(bytes, 3), CHECK_FILE_ROWS, tag);
+    let p = layout::part_of(layout::key_at(bytes, layout::HEAD), CHECK_FILE_ROWS, tag);
     let start = p.start;
     let end = start + p.len;
     &bytes[start..end]

@@ -26,11 +26,11 @@ add-rule c = record { fits = omega (arith, subst (λ (l : Level). shifted 64 (l 
 add-rule-2 : tie.Need-add-rule-2
 add-rule-2 c = record { fits = omega (arith, subst (λ (l : Level). shifted 64 (l .width) + shifted 64 (l .tap) < 8192) (sym (c .of .ensures)) (small-64 (c .before .args .level))) }
 
-sub-h : tie.Need-sub-h
-sub-h c = omega (arith, ap (λ (l : Level). l .width) (c .before .of .ensures), bounded (c .before .before .args .level) .width)
+sub-highest : tie.Need-sub-highest
+sub-highest c = omega (arith, ap (λ (l : Level). l .width) (c .before .of .ensures), bounded (c .before .before .args .level) .width)
 
-shr-h : tie.Need-shr-h
-shr-h c = omega (arith, ap (λ (l : Level). l .width) (c .before .of .ensures), bounded (c .before .before .args .level) .short)
+shr-highest : tie.Need-shr-highest
+shr-highest c = omega (arith, ap (λ (l : Level). l .width) (c .before .of .ensures), bounded (c .before .before .args .level) .short)
 
 mul-result : tie.Need-mul-result
 mul-result c = record { fits = lanes-fit _ _ (and-le-r (c .before .before .args .x / 2 ^ (c .before .of .result .width - 1)) 281479271743489) (omega (arith, subst (λ (l : Level). shifted 64 (l .width) + shifted 64 (l .tap) < 8192) (sym (c .before .of .ensures)) (small-64 (c .before .before .args .level)))) }
@@ -43,4 +43,4 @@ returns c =
 pub times-z-spec : {M : Type 1} → statement M
 times-z-spec =
     tie.close
-    (tie.spec of-requires shl-rule shl-rule-2 add-rule add-rule-2 sub-h shr-h mul-result returns)
+    (tie.spec of-requires shl-rule shl-rule-2 add-rule add-rule-2 sub-highest shr-highest mul-result returns)

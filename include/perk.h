@@ -15,7 +15,8 @@
  *     if (perk_verify(..) == PERK_ACCEPTED) ..       and not: if (perk_verify(..)) ..
  *
  * Any other number is a refusal, 1 to 12, and then every output holds what it held before. Refusals are tried in the
- * order in which a function lists them; the first that applies is the result.
+ * order in which a function lists them; the first that applies is the result. Sizes and lengths are decided before any
+ * slice is read, so that a length in bytes for one in words is refused with 3; this is tested, and not part of the proof.
  *
  * Numbers. An element of F is a number 0 to 2047 whose bit i is the coefficient of z^i, with z^11 = z^2 + 1. An element
  * of K is PERK_ELEMENT_WORDS = 12 words, coordinate 0 first, each an element of F, with Y^12 = Y^3 + 1; several elements
@@ -215,8 +216,8 @@ uint32_t perk_prove(size_t n, size_t m, const uint16_t *h, size_t h_len, const u
  * Refusals: 1, 2, 3 (all eight slices), 4 (h, x), 5 (t), 6 (q, delta, masks, alpha, a). Stack: under 12 KiB.
  *
  * Accepted means that this equation holds. It does not by itself mean that a signature is valid: the challenge, the
- * weights and the correlations are the caller's, who must take the challenge only after the prover's commitment and
- * check that the correlations are consistent.
+ * weights and the correlations are the caller's, who must take the weights only after the prover's commitment to its
+ * correlations and t, the challenge only after a too, and check that the correlations are consistent.
  */
 PERK_LOOK_AT_RESULT
 uint32_t perk_verify(size_t n, size_t m, const uint16_t *h, size_t h_len, const uint16_t *x, size_t x_len,

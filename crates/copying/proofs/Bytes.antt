@@ -1,0 +1,98 @@
+-- Numbers as bytes, two to a number, and back.
+use mathlib.Core.Path.{_≡_, refl, sym, ap, ap₂, _∙_, subst}
+use mathlib.Core.List.{List, [], _∷_, _++_}
+use Prim.Native.Nat.{ℕ, zero, suc, _+_, _*_, _/_, _%_, _≤_, _<_}
+use native.Mathlib.Decide.{decLt}
+use native.Mathlib.Omega.{arith}
+use lib.ListN.{length, getD, drop, length-take, List·getD-eq-default}
+use Rattle.lists.specs.Words.{part}
+use Rattle.lists.proofs.Words.{part-at}
+use Rattle.copying.specs.Words.{Bytes, word, words, twoBytes, wordBytes}
+use Rattle.copying.proofs.Words.{words-half}
+
+pub words-bytes : (s : List ℕ) → words (wordBytes s) ≡ s
+unfolding words wordBytes
+words-bytes [] = refl
+words-bytes (x ∷ s) =
+    let e : x / 256 * 256 + x % 256 ≡ x = omega arith in
+    ap₂ _∷_ e (words-bytes s)
+
+pub bytes-length : (s : List ℕ) → length (wordBytes s) ≡ 2 * length s
+unfolding wordBytes
+bytes-length [] = refl
+bytes-length (x ∷ s) = let h = bytes-length s in omega arith
+
+pub words-length : (c : List ℕ) (k : ℕ) → length c ≡ 2 * k → length (words c) ≡ k
+words-length c k h = omega (arith, words-half c)
+
+-- the two bytes of number i
+pub bytes-high : (s : List ℕ) (i : ℕ) → getD (wordBytes s) (2 * i) 0 ≡ getD s i 0 / 256
+unfolding wordBytes
+bytes-high [] i = refl
+bytes-high (x ∷ s) zero = refl
+bytes-high (x ∷ s) (suc i) =
+    let e : 2 * suc i ≡ suc (suc (2 * i)) = omega arith in
+    ap (λ k. getD (wordBytes (x ∷ s)) k 0) e ∙ bytes-high s i
+
+pub bytes-low : (s : List ℕ) (i : ℕ) → getD (wordBytes s) (2 * i + 1) 0 ≡ getD s i 0 % 256
+unfolding wordBytes
+bytes-low [] i = refl
+bytes-low (x ∷ s) zero = refl
+bytes-low (x ∷ s) (suc i) =
+    let e : 2 * suc i + 1 ≡ suc (suc (2 * i + 1)) = omega arith in
+    ap (λ k. getD (wordBytes (x ∷ s)) k 0) e ∙ bytes-low s i
+
+-- a content of k numbers, from its numbers
+pub bytes-words : (c : List ℕ) (k : ℕ) → Bytes c → length c ≡ 2 * k → wordBytes (words c) ≡ c
+unfolding words wordBytes
+bytes-words [] k b h = refl
+bytes-words (x ∷ []) k b h = absurd (omega arith)
+bytes-words (x ∷ y ∷ c) zero b h = absurd (omega arith)
+bytes-words (x ∷ y ∷ c) (suc k) b h =
+    let low : y < 256 = b 1 in
+    let high : (x * 256 + y) / 256 ≡ x = omega arith in
+    let rest : (x * 256 + y) % 256 ≡ y = omega arith in
+    ap₂ _∷_ high (ap₂ _∷_ rest (bytes-words c k (λ i. b (suc (suc i))) (omega arith)))
+
+-- one number
+pub two-word : (x : ℕ) → word (twoBytes x) 0 ≡ x
+two-word x = omega arith
+
+pub word-two : (c : List ℕ) → Bytes c → length c ≡ 2 → twoBytes (word c 0) ≡ c
+unfolding words wordBytes
+word-two [] b h = absurd (omega arith)
+word-two (x ∷ []) b h = absurd (omega arith)
+word-two (x ∷ y ∷ []) b h = bytes-words (x ∷ y ∷ []) 1 b h
+word-two (x ∷ y ∷ z ∷ c) b h = absurd (omega arith)
+
+pub word-lt : (s : List ℕ) (i : ℕ) → Bytes s → word s i < 65536
+word-lt s i b = omega (arith, b i, b (i + 1))
+
+pub bytes-part : (s : List ℕ) (i n : ℕ) → Bytes s → Bytes (part i n s)
+bytes-part s i n b k = pick (decLt k n)
+  where
+    pick : Dec (k < n) → getD (part i n s) k 0 < 256
+    pick (yes h) = subst (λ x. x < 256) (sym (part-at i n s k h)) (b (i + k))
+    pick (no h) =
+        let short : length (part i n s) ≤ k = rw (length-take n (drop i s)) (omega arith) in
+        subst (λ x. x < 256) (sym (List·getD-eq-default (part i n s) 0 short)) (omega arith)
+
+pub bytes-cons : (x : ℕ) (s : List ℕ) → x < 256 → Bytes s → Bytes (x ∷ s)
+bytes-cons x s h b zero = h
+bytes-cons x s h b (suc i) = b i
+
+pub bytes-append : (s t : List ℕ) → Bytes s → Bytes t → Bytes (s ++ t)
+bytes-append [] t b d i = d i
+bytes-append (x ∷ s) t b d zero = b 0
+bytes-append (x ∷ s) t b d (suc i) = bytes-append s t (λ k. b (suc k)) d i
+
+-- numbers below 2^16 are written as bytes
+pub two-bytes : (x : ℕ) → x < 65536 → Bytes (twoBytes x)
+two-bytes x h zero = omega arith
+two-bytes x h (suc zero) = omega arith
+two-bytes x h (suc (suc i)) = omega arith
+
+pub word-bytes : (s : List ℕ) → ((i : ℕ) → getD s i 0 < 65536) → Bytes (wordBytes s)
+unfolding wordBytes
+word-bytes [] h = λ i. omega arith
+word-bytes (x ∷ s) h = bytes-append (twoBytes x) (wordBytes s) (two-bytes x (h 0)) (word-bytes s (λ i. h (suc i)))

@@ -1,0 +1,72 @@
+// Bytes and numbers of two bytes, put into and read from lent slices.
+ghost use mathlib.Core.Path.{_≡_};
+ghost use Prim.Native.Nat.{_+_, _*_, _≤_, _<_};
+ghost use lib.ListN.{length, take, getD};
+ghost use Rattle.lists.specs.Words.{put};
+ghost use Rattle.copying.specs.Words.{word, words, wordBytes};
+
+fn wide(x: u8) -> usize
+    ensures { λ r. ⌜ (r ≡ x) × (r < 256) ⌝ }
+{
+    x as usize
+}
+
+// The byte at place i, 0 past the end.
+pub fn byte_at(s: &[u8], i: usize) -> usize
+    ensures { λ r. ⌜ (r ≡ getD (now (s .entry)) i 0) × (r < 256) ⌝ }
+{
+    if i < s.len() { wide(s[i]) } else { 0 }
+}
+
+// The number of two bytes at place i, highest byte first.
+pub fn word_at(s: &[u8], i: usize) -> usize
+    requires { ⌜ i + 1 < length (now s) ⌝ }
+    ensures { λ r. ⌜ (r ≡ word (now (s .entry)) i) × (r < 65536) ⌝ }
+{
+    wide(s[i]) * 256 + wide(s[i + 1])
+}
+
+// The numbers of two bytes of c, at the start of out; answers how many.
+pub fn words_into(c: &[u8], out: &mut [u16]) -> usize
+    requires { ⌜ length (now c) ≤ 2 * length (now out) ⌝ }
+    ensures { λ r. ⌜ (take r (now (out .exit)) ≡ words (now (c .entry))) × (r ≤ length (now (out .exit))) × (r ≡ length (take r (now (out .exit)))) ⌝ }
+{
+    let mut i = 0;
+    let mut k = 0;
+    while k + 1 < c.len() {
+        out[i] = word_at(c, k) as u16;
+        i += 1;
+        k += 2;
+    }
+    i
+}
+
+// The bytes, from place at on; answers the place after them.
+pub fn put_bytes(bytes: &[u8], at: usize, out: &mut [u8]) -> usize
+    requires { ⌜ at + length (now bytes) ≤ length (now out) ⌝ }
+    ensures { λ r. ⌜ (now (out .exit) ≡ put at (now (bytes .entry)) (now (out .entry))) × (r ≡ at + length (now (bytes .entry))) ⌝ }
+{
+    let mut i = 0;
+    while i < bytes.len() {
+        out[at + i] = bytes[i];
+        i += 1;
+    }
+    at + i
+}
+
+// Each word as two bytes, highest byte first, from place at on; answers the place after them.
+pub fn put_words(words: &[u16], at: usize, out: &mut [u8]) -> usize
+    requires { ⌜ at + 2 * length (now words) ≤ length (now out) ⌝ }
+    ensures { λ r. ⌜ (now (out .exit) ≡ put at (wordBytes (now (words .entry))) (now (out .entry))) × (r ≡ at + 2 * length (now (words .entry))) ⌝ }
+{
+    let mut i = 0;
+    let mut k = at;
+    while i < words.len() {
+        let x = words[i];
+        out[k] = (x / 256) as u8;
+        out[k + 1] = (x % 256) as u8;
+        i += 1;
+        k += 2;
+    }
+    k
+}

@@ -1,32 +1,26 @@
 -- The answer from those of the reader and the verifier.
-use mathlib.Core.Path.{_≡_, refl, sym, ap, ap₂}
+use mathlib.Core.Path.{_≡_, sym, ap, ap₂, _∙_}
 use mathlib.Core.List.{List}
 use Prim.Native.Nat.{ℕ}
-use native.Mathlib.Omega.{arith}
-use Rattle.refusal.specs.Answer.{firstOf}
-use Rattle.refusal.specs.declared.Answer.{Answer}
-use Rattle.refusal.specs.declared.Answer.the-variants.{Done, Refused}
+use denote.Ref.{RefT, now}
+use Rattle.lists.specs.Words.{part}
 use Rattle.refusal.specs.declared.Verdict.{Verdict}
+use Rattle.field.specs.declared.Level.{Level}
 use Rattle.field.specs.Level.{FIRST, levelAt}
-use Rattle.key.specs.declared.Key.{Key}
 use Rattle.layout.specs.declared.Row.{Row}
 use Rattle.layout.specs.Layout.{checkFileRows}
-use Rattle.layout.specs.Tests.{keyOf, fileTests}
-use Rattle.package.specs.declared.Contents.{Contents}
+use Rattle.layout.specs.Tests.{Whole, partOf}
 use Rattle.package.specs.declared.Read.{Read}
-use Rattle.package.specs.declared.Read.the-variants as read
-use Rattle.package.specs.Reading.{readAs, reading}
-use Rattle.checkfile.specs.Checking.{packageOf, checkOf, verdictOf, answered, checking}
+use Rattle.package.specs.Reading.{partIf, checkFileReader, reading, IsPart}
+use Rattle.package.proofs.Accepted.{check-file-whole}
+use Rattle.checkfile.specs.Checking.{Accepts, content, keyDataOf, groupOf, checkOf, verdictOf, answered, checking}
 
-fields-only : (a : Answer) (c : Contents) {d : Contents} → readAs a c ≡ read.Fields d → (a ≡ Done) × (c ≡ d)
-fields-only Done c e = (refl, cc)
-fields-only (Refused r) c e = let z : _≡_ {A = ℕ} 0 1 = cc in absurd (omega arith)
+-- the bytes handed back for a tag are the content, in an accepted file
+pub content-is : (r s : RefT (List ℕ)) (tag : ℕ) → Accepts (levelAt FIRST) (now s) → ((l : Level) (rows : List Row) → Whole l (now s) rows → IsPart r s (partOf tag 0 rows)) → now r ≡ content (levelAt FIRST) (now s) tag
+content-is r s tag e f =
+    let rows = checkFileRows (levelAt FIRST) (now s) in
+    f (levelAt FIRST) rows (check-file-whole (levelAt FIRST) (now s) e) .bytes
+    ∙ ap (λ a. let p = partIf a (partOf tag 0 rows) in part (p .start) (p .len) (now s)) (sym e)
 
--- a reader that answers with contents refuses nothing, and they have the file's key
-pub read-accepts : (rows : Key → List Row) (s : List ℕ) {c : Contents} → reading (levelAt FIRST) rows s ≡ read.Fields c → (firstOf (fileTests (levelAt FIRST) (rows (keyOf s)) s) ≡ Done) × (record { n = c .n; m = c .m } ≡ keyOf s)
-read-accepts rows s e =
-    let f = fields-only (firstOf (fileTests (levelAt FIRST) (rows (keyOf s)) s)) _ e in
-    (f .0, ap (λ (c : Contents). record { n = c .n; m = c .m }) (sym (f .1)))
-
-pub told : (s : List ℕ) {r : Read} {v : Verdict} → r ≡ reading (levelAt FIRST) (checkFileRows (levelAt FIRST)) s → v ≡ verdictOf (levelAt FIRST) (packageOf (levelAt FIRST) s) (checkOf (levelAt FIRST) s) → answered r v ≡ checking (levelAt FIRST) s
+pub told : (s : List ℕ) {r : Read} {v : Verdict} → r ≡ reading (checkFileReader (levelAt FIRST)) s → v ≡ verdictOf (levelAt FIRST) (keyDataOf (levelAt FIRST) s) (groupOf (levelAt FIRST) s) (checkOf (levelAt FIRST) s) → answered r v ≡ checking (levelAt FIRST) s
 told s e f = ap₂ answered e f

@@ -1,3 +1,4 @@
+pub mod Said
 pub mod Rooms
 pub mod Joined
 pub mod Judged

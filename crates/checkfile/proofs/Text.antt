@@ -1,37 +1,26 @@
 -- Texts written one after the other into a list.
 use mathlib.Core.Path.{_≡_, refl, sym, ap, ap₂, _∙_, subst}
 use mathlib.Core.List.{List, [], _∷_, _++_, append-assoc, append-nil}
-use Prim.Native.Nat.{ℕ, suc, _+_, _≤_, _<_}
-use native.Mathlib.Numerals.{add-one}
+use Prim.Native.Nat.{ℕ, _+_, _≤_, _<_}
 use native.Mathlib.Omega.{arith}
 use mathlib.Core.Bool.{Bool, true, false, cond}
 use lib.Dec.{ltb}
 use borrow.Author.Tests.{lt-ltb, le-ltb}
-use lib.ListN.{length, getD, take, drop, set, length-append, List·getD-append}
-use lib.Seq.{paste, paste-suc, getD-append-seam, drop-append-add, take-at, length-take-le, drop-drop}
+use lib.ListN.{length, take, drop, set, length-append}
+use lib.Seq.{getD-append-seam, drop-append-add, take-at, length-take-le, drop-drop}
 use Rattle.lists.specs.Words.{put}
 use Rattle.lists.proofs.Words.{put-pasted}
+use Rattle.copying.proofs.Filled.{paste-more}
 use Rattle.checkfile.specs.declared.Checked.{Checked}
 use Rattle.checkfile.specs.Line.{lineOf, printed}
 
--- the bytes of a text and one after it, written one by one
-module _ (d text : List ℕ) (at last i : ℕ) where
-  abbrev whole : List ℕ
-  whole = text ++ (last ∷ [])
-
-  long : length whole ≡ length text + 1
-  long = length-append text (last ∷ [])
-
-  pub text-more : {out : List ℕ} → out ≡ paste d at whole i → at + i < length d → i < length text → set out (at + i) (getD text i 0) ≡ paste d at whole (i + 1)
-  text-more e h b =
-      let more : i < length whole = omega (arith, long) in
-      ap₂ (λ (o : List ℕ) (x : ℕ). set o (at + i) x) e (sym (List·getD-append text (last ∷ []) 0 i b)) ∙ paste-suc d at whole i 0 h more ∙ ap (paste d at whole) (sym (add-one i))
-
-  pub text-last : {out : List ℕ} → out ≡ paste d at whole i → at + i < length d → i ≡ length text → set out (at + i) last ≡ put at whole d
-  text-last e h b =
-      let more : i < length whole = omega (arith, long) in
-      let is : last ≡ getD whole i 0 = sym (getD-append-seam text last [] 0) ∙ ap (λ k. getD whole k 0) (sym b) in
-      ap₂ (λ (o : List ℕ) (x : ℕ). set o (at + i) x) e is ∙ paste-suc d at whole i 0 h more ∙ put-pasted at (suc i) whole d (omega (arith, long))
+-- one byte after a text
+pub text-last : (d text : List ℕ) (at last : ℕ) {out : List ℕ} {k : ℕ} → out ≡ put at text d → k ≡ at + length text → at + length text < length d → set out k last ≡ put at (text ++ (last ∷ [])) d
+text-last d text at last e f h =
+    let whole = text ++ (last ∷ []) in
+    let size = length-append text (last ∷ []) in
+    let first = e ∙ ap (λ t. take at d ++ t ++ drop (at + length text) d) (sym (take-at text (last ∷ []) (length text) refl)) in
+    paste-more d at whole (length text) first f (sym (getD-append-seam text last [] 0)) h (omega arith) ∙ put-pasted at (length text + 1) whole d size
 
 -- one text after another
 pub put-more : (s a b : List ℕ) → length a + length b ≤ length s → put (length a) b (put 0 a s) ≡ put 0 (a ++ b) s

@@ -4,10 +4,11 @@ ghost use mathlib.Core.List.{[], _∷_, _++_};
 ghost use Prim.Native.Nat.{_+_, _*_, _%_, _≤_, _<_};
 ghost use lib.ListN.{length, take};
 ghost use Rattle.lists.specs.Words.{put};
+ghost use Rattle.copying.specs.Words.{words};
 ghost use Rattle.field.specs.Level.{FIRST, levelAt};
-ghost use Rattle.layout.specs.Tests.{words, keyOf};
+ghost use Rattle.layout.specs.Tests.{keyOf};
 ghost use Rattle.verifier.specs.Entry.{verifyOutcome};
-ghost use Rattle.checkfile.specs.Checking.{checkNumber, content, Accepts, packageOf, checkOf, verdictOf, checking};
+ghost use Rattle.checkfile.specs.Checking.{checkNumber, content, Accepts, keyDataOf, groupOf, checkOf, verdictOf, checking};
 ghost use Rattle.checkfile.specs.Line.{decimal, saidOf, printed};
 use key::Key;
 use layout::Row;
@@ -52,33 +53,12 @@ pub fn number(checked: Checked) -> u32
     }
 }
 
-fn wide(x: u8) -> u16
-    ensures { λ r. ⌜ (r ≡ x) × (r < 256) ⌝ }
-{
-    x as u16
-}
-
-// The numbers of two bytes of c, at the start of out; answers how many.
-fn words_into(c: &[u8], out: &mut [u16]) -> usize
-    requires { ⌜ length (now c) ≤ 2 * length (now out) ⌝ }
-    ensures { λ r. ⌜ (take r (now (out .exit)) ≡ words (now (c .entry))) × (r ≤ length (now (out .exit))) × (r ≡ length (take r (now (out .exit)))) ⌝ }
-{
-    let mut i = 0;
-    let mut k = 0;
-    while k + 1 < c.len() {
-        out[i] = wide(c[k]) * 256 + wide(c[k + 1]);
-        i += 1;
-        k += 2;
-    }
-    i
-}
-
 // The content of a field of an accepted check file as words, at the start of out; answers how many.
 fn load(bytes: &[u8], tag: u8, out: &mut [u16]) -> usize
-    requires { ⌜ Accepts (levelAt FIRST) (now bytes) × (length (content (levelAt FIRST) (now bytes) tag) ≤ 2 * length (now out)) ⌝ }
+    requires { ⌜ Accepts (levelAt FIRST) (now bytes) × (length (words (content (levelAt FIRST) (now bytes) tag)) ≤ length (now out)) ⌝ }
     ensures { λ r. ⌜ (take r (now (out .exit)) ≡ words (content (levelAt FIRST) (now (bytes .entry)) tag)) × (r ≤ length (now (out .exit))) × (r ≡ length (take r (now (out .exit)))) ⌝ }
 {
-    words_into(package::check_field(bytes, tag), out)
+    copying::words_into(package::content(bytes, tag), out)
 }
 
 // The verdict on an accepted check file whose H, x and a are lent as words.
@@ -94,7 +74,7 @@ fn judge_with(bytes: &[u8], key: Key, h: &[u16], x: &[u16], a: &[u16]) -> Verdic
     let delta_len = load(bytes, Row::DELTA, &mut delta);
     let mut alpha = [0u16; VALUES];
     let alpha_len = load(bytes, Row::ALPHA, &mut alpha);
-    let t = package::check_field(bytes, Row::T);
+    let t = package::content(bytes, Row::T);
     verifier::verify(
         key,
         h,
@@ -111,7 +91,7 @@ fn judge_with(bytes: &[u8], key: Key, h: &[u16], x: &[u16], a: &[u16]) -> Verdic
 // The verdict on an accepted check file with this key.
 fn judge(bytes: &[u8], key: Key) -> Verdict
     requires { ⌜ Accepts (levelAt FIRST) (now bytes) × (key ≡ keyOf (now bytes)) ⌝ }
-    ensures { λ r. ⌜ r ≡ verdictOf (levelAt FIRST) (packageOf (levelAt FIRST) (now (bytes .entry))) (checkOf (levelAt FIRST) (now (bytes .entry))) ⌝ }
+    ensures { λ r. ⌜ r ≡ verdictOf (levelAt FIRST) (keyDataOf (levelAt FIRST) (now (bytes .entry))) (groupOf (levelAt FIRST) (now (bytes .entry))) (checkOf (levelAt FIRST) (now (bytes .entry))) ⌝ }
 {
     let mut h = [0u16; MATRIX];
     let h_len = load(bytes, Row::H, &mut h);
@@ -154,13 +134,9 @@ fn put_text(text: &[u8], last: u8, at: usize, out: &mut [u8]) -> usize
     requires { ⌜ at + length (now text) < length (now out) ⌝ }
     ensures { λ r. ⌜ (now (out .exit) ≡ put at (now (text .entry) ++ (last ∷ [])) (now (out .entry))) × (r ≡ at + (length (now (text .entry)) + 1)) ⌝ }
 {
-    let mut i = 0;
-    while i < text.len() {
-        out[at + i] = text[i];
-        i += 1;
-    }
-    out[at + i] = last;
-    at + i + 1
+    let end = copying::put_bytes(text, at, out);
+    out[end] = last;
+    end + 1
 }
 
 // A number in decimal and one byte after it.

@@ -28,7 +28,7 @@ pub fn word_at(s: &[u8], i: usize) -> usize
 
 // The numbers of two bytes of c, at the start of out; answers how many.
 pub fn words_into(c: &[u8], out: &mut [u16]) -> usize
-    requires { ⌜ length (now c) ≤ 2 * length (now out) ⌝ }
+    requires { ⌜ length (words (now c)) ≤ length (now out) ⌝ }
     ensures { λ r. ⌜ (take r (now (out .exit)) ≡ words (now (c .entry))) × (r ≤ length (now (out .exit))) × (r ≡ length (take r (now (out .exit)))) ⌝ }
 {
     let mut i = 0;

@@ -1,77 +1,78 @@
--- A file's answer from those of its rows, and the sizes that its first row gives.
-use mathlib.Core.Path.{_≡_, refl, ap, ap₂, _∙_, subst}
+-- The sizes that field 01 gives, and the tables of packages and check files.
+use mathlib.Core.Path.{_≡_, refl, sym, ap, ap₂, _∙_, subst}
 use mathlib.Core.Bool.{Bool}
 use mathlib.Core.List.{List, [], _∷_, _++_, append-assoc}
-use Prim.Native.Nat.{ℕ, zero, suc, _+_, _≤_, _<_}
+use Prim.Native.Nat.{ℕ, _*_}
+use native.Mathlib.Nat.{add-zero}
 use native.Mathlib.Omega.{arith}
-use borrow.Author.Tests.{lt-ltb, le-ltb}
-use lib.Dec.{ltb}
-use lib.ListN.{length, take}
+use lib.ListN.{getD}
 use Rattle.lists.specs.Words.{part}
 use Rattle.lists.proofs.Words.{part-at}
-use Rattle.refusal.specs.Answer.{refusal, firstOf}
-use Rattle.refusal.proofs.Answers.{None, pass, stop, after-done, after-refused}
-use Rattle.refusal.specs.declared.Refusal.{Refusal}
-use Rattle.refusal.specs.declared.Answer.{Answer}
-use Rattle.refusal.specs.declared.Answer.the-variants.{Done, Refused}
+use Rattle.refusal.specs.Answer.{firstOf}
+use Rattle.refusal.proofs.Answers.{None, none}
+use Rattle.refusal.specs.declared.Answer.the-variants.{Done}
 use Rattle.field.specs.declared.Level.{Level}
-use Rattle.key.specs.declared.Key.{Key}
-use Rattle.key.specs.Key.{Sized}
+use Rattle.key.specs.Key.{Sized, lengths}
 use Rattle.key.proofs.Sized.{sized}
 use Rattle.layout.specs.declared.Row.{Row}
-use Rattle.layout.specs.declared.Step.the-variants as step
-use Rattle.layout.specs.declared.Kind.the-variants.{Sizes}
-use Rattle.layout.specs.Layout.{packageRows, checkFileRows}
-use Rattle.layout.specs.Tests.{keyAt, keyOf, rowTests, tests, fileTests, after, segment, stepped}
-use Rattle.layout.proofs.Rows.{passed}
+use Rattle.layout.specs.declared.Kind.the-variants.{Sizes, Elements, Any, Bits, Coordinates}
+use Rattle.layout.specs.Layout.{keySegment, groupSegment, checkSegment, keyEnd, groupEnd, checkEnd, keyTests, packageRows, checkFileRows, packageTests, checkFileTests}
+use Rattle.layout.specs.Tests.{keyAt, keyOf, tests, after, endTests}
+use Rattle.layout.proofs.Rows.{head-passed, tests-append, after-append}
 
 -- field 01
 abbrev pub sizesRow : Row
 sizesRow = record { tag = 0x01; len = 2; kind = Sizes }
 
--- n and m of its content are those of the file
-pub key-part : (s : List ℕ) → keyAt (part 3 2 s) 0 ≡ keyOf s
-key-part s = ap₂ (λ (n m : ℕ). record { n = n; m = m }) (part-at 3 2 s 0 (omega arith)) (part-at 3 2 s 1 (omega arith))
+-- n and m of its content are those of the bytes
+pub key-part : (s : List ℕ) (at : ℕ) → keyAt (part at 2 s) 0 ≡ keyAt s at
+key-part s at = ap₂ (λ (n m : ℕ). record { n = n; m = m }) (part-at at 2 s 0 (omega arith) ∙ ap (λ i. getD s i 0) (add-zero at)) (part-at at 2 s 1 (omega arith))
 
-pub sized-key : (l : Level) (s : List ℕ) → None (rowTests l s 0 sizesRow) → Sized l (keyOf s)
-sized-key l s e = subst (Sized l) (key-part s) (sized l (keyAt (part 3 2 s) 0) (passed l s 0 sizesRow e .values))
+-- they are sizes where the rows that it leads are not refused
+pub first-sized : (l : Level) (s : List ℕ) (rows : List Row) → None (tests l s 0 (sizesRow ∷ rows)) → Sized l (keyOf s)
+first-sized l s rows e = subst (Sized l) (key-part s 3) (sized l (keyAt (part 3 2 s) 0) (head-passed l s 0 sizesRow rows e .0 .values))
 
-pub rows-length : (l : Level) (key : Key) → length (checkFileRows l key) ≡ 10
-unfolding checkFileRows packageRows
-rows-length l key = refl
+pub key-sized : (l : Level) (s : List ℕ) → firstOf (keyTests l s) ≡ Done → Sized l (keyOf s)
+key-sized l s e = first-sized l s _ (none (keyTests l s) e)
 
--- field 01 comes first
-pub rows-first : (l : Level) (key : Key) (count : ℕ) → 0 < count → take count (checkFileRows l key) ≡ sizesRow ∷ segment 1 count (checkFileRows l key)
-unfolding checkFileRows packageRows
-rows-first l key zero h = absurd (omega arith)
-rows-first l key (suc count) h = refl
+module _ (l : Level) (s : List ℕ) where
+  pub package-end : after 0 (packageRows l s) ≡ groupEnd l s
+  unfolding packageRows
+  package-end = after-append 0 (keySegment l s) (groupSegment l s)
 
--- the tests of a file by those of its first row and of the rest
-module _ (l : Level) (s : List ℕ) (row : Row) (rows : List Row) where
-  abbrev end : ℕ → List (Bool × ℕ)
-  end p = (ltb p (length s), 12) ∷ []
+  pub check-file-end : after 0 (checkFileRows l s) ≡ checkEnd l s
+  unfolding checkFileRows
+  check-file-end = after-append 0 (packageRows l s) (checkSegment l s) ∙ ap (λ at. after at (checkSegment l s)) package-end
 
-  pub file-stop : {r : Answer} {k : Refusal} → r ≡ firstOf (rowTests l s 0 row) → r ≡ Refused k → r ≡ firstOf (fileTests l (row ∷ rows) s)
-  unfolding tests
-  file-stop e h = after-refused (tests l s 0 (row ∷ rows)) (end (after 0 (row ∷ rows))) (after-refused (rowTests l s 0 row) (tests l s (0 + 3 + row .len) rows) e h) h
+  -- the tests of a package are P1 to P5 of six rows, "then P6"
+  pub package-tests : packageTests l s ≡ tests l s 0 (packageRows l s) ++ endTests s (after 0 (packageRows l s))
+  unfolding packageRows
+  package-tests = ap₂ (λ (t : List (Bool × ℕ)) (at : ℕ). t ++ endTests s at) (sym (tests-append l s 0 (keySegment l s) (groupSegment l s))) (sym package-end)
 
-  pub file-rest : firstOf (rowTests l s 0 row) ≡ Done → firstOf (fileTests l (row ∷ rows) s) ≡ firstOf (tests l s (0 + 3 + row .len) rows ++ end (after (0 + 3 + row .len) rows))
-  unfolding tests after
-  file-rest e = ap firstOf (append-assoc (rowTests l s 0 row) (tests l s (0 + 3 + row .len) rows) (end (after (0 + 3 + row .len) rows))) ∙ after-done (rowTests l s 0 row) (tests l s (0 + 3 + row .len) rows ++ end (after (0 + 3 + row .len) rows)) e
+  pub package-rows : packageRows l s ≡ sizesRow
+      ∷ record { tag = 0x02; len = 2 * lengths l (keyOf s) .matrix; kind = Elements }
+      ∷ record { tag = 0x03; len = 2 * lengths l (keyOf s) .vector; kind = Elements }
+      ∷ record { tag = 0x05; len = 2; kind = Any }
+      ∷ record { tag = 0x06; len = lengths l (keyOf s) .bits; kind = Bits }
+      ∷ record { tag = 0x07; len = 2 * lengths l (keyOf s) .proof; kind = Coordinates }
+      ∷ []
+  unfolding packageRows
+  package-rows = refl
 
--- P6, where no field is refused
-module _ (others : List (Bool × ℕ)) (p n : ℕ) (e : firstOf others ≡ Done) where
-  pub end-follows : p < n → firstOf (others ++ ((ltb p n, 12) ∷ [])) ≡ refusal 12
-  end-follows h = after-done others ((ltb p n, 12) ∷ []) e ∙ stop 12 [] (lt-ltb p n h)
+  -- those of a check file are of these and four more
+  pub check-file-tests : checkFileTests l s ≡ tests l s 0 (checkFileRows l s) ++ endTests s (after 0 (checkFileRows l s))
+  unfolding packageRows checkFileRows
+  check-file-tests =
+      ap₂ (λ (t : List (Bool × ℕ)) (at : ℕ). t ++ endTests s at)
+      (ap₂ (λ (t : List (Bool × ℕ)) (at : ℕ). t ++ tests l s at (checkSegment l s)) (sym (tests-append l s 0 (keySegment l s) (groupSegment l s))) (sym package-end)
+      ∙ sym (tests-append l s 0 (packageRows l s) (checkSegment l s)))
+      (sym check-file-end)
 
-  pub end-reached : n ≤ p → firstOf (others ++ ((ltb p n, 12) ∷ [])) ≡ Done
-  end-reached h = after-done others ((ltb p n, 12) ∷ []) e ∙ pass 12 [] (le-ltb p n h)
-
--- what a step says of the answer behind it
-pub step-refused : (a : Answer) (p : ℕ) {r : Refusal} → stepped a p ≡ step.Refused r → a ≡ Refused r
-step-refused Done p e = let z : _≡_ {A = ℕ} 0 1 = cc in absurd (omega arith)
-step-refused (Refused r) p e = cc
-
-pub step-next : (a : Answer) (p : ℕ) {q : ℕ} → stepped a p ≡ step.Next q → (a ≡ Done) × (q ≡ p)
-step-next Done p e = (refl, cc)
-step-next (Refused r) p e = let z : _≡_ {A = ℕ} 0 1 = cc in absurd (omega arith)
+  pub check-file-rows : checkFileRows l s ≡ packageRows l s ++
+      (record { tag = 0x11; len = 2 * lengths l (keyOf s) .elements; kind = Coordinates }
+      ∷ record { tag = 0x12; len = 2 * lengths l (keyOf s) .masks; kind = Coordinates }
+      ∷ record { tag = 0x13; len = 2 * lengths l (keyOf s) .one; kind = Coordinates }
+      ∷ record { tag = 0x14; len = 2 * lengths l (keyOf s) .values; kind = Coordinates }
+      ∷ [])
+  unfolding checkFileRows
+  check-file-rows = refl

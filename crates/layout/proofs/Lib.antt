@@ -2,3 +2,4 @@ pub mod Words
 pub mod Rows
 pub mod Files
 pub mod Bounds
+pub mod Rest

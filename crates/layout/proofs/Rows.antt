@@ -1,23 +1,37 @@
--- Laws of the tests that the readers run, for any table of rows.
-use mathlib.Core.Path.{_≡_, refl, sym, ap, _∙_}
+-- Laws of the tests that the readers run, for any rows.
+use mathlib.Core.Path.{_≡_, refl, sym, ap, ap₂, _∙_}
+use mathlib.Core.Bool.{Bool}
 use mathlib.Core.List.{List, [], _∷_, _++_, append-assoc}
-use Prim.Native.Nat.{ℕ, _+_, _-_, _≤_, _<_}
-use native.Mathlib.Numerals.{add-one}
+use Prim.Native.Nat.{ℕ, _+_, _-_, _≤_}
 use native.Mathlib.Omega.{arith}
-use borrow.Author.Tests.{eq-eqb, ne-eqb, le-ltb, ltb-false, eqb-true, not-false}
+use borrow.Author.Tests.{eq-eqb, le-ltb, ltb-false, eqb-true, not-false}
 use lib.Dec.{eqb}
-use lib.ListN.{length, getD, take, length-take, drop-of-length-le}
-use lib.Seq.{drop-cons, getD-take}
+use lib.ListN.{length, getD}
 use Rattle.lists.specs.Words.{part}
 use Rattle.refusal.specs.Answer.{firstOf}
 use Rattle.refusal.proofs.Answers.{None, after-done, after-refused}
-use Rattle.refusal.specs.declared.Refusal.{Refusal}
+use Rattle.refusal.specs.declared.Answer.{Answer}
 use Rattle.refusal.specs.declared.Answer.the-variants.{Done, Refused}
+use Rattle.refusal.specs.declared.Refusal.{Refusal}
+use Rattle.copying.specs.Words.{word}
 use Rattle.field.specs.declared.Level.{Level}
 use Rattle.layout.specs.declared.Row.{Row}
 use Rattle.layout.specs.declared.Step.{Step}
 use Rattle.layout.specs.declared.Step.the-variants as step
-use Rattle.layout.specs.Tests.{word, valueTests, rowTests, tests, after, segment, noRow, empty, partOf, stepped}
+use Rattle.layout.specs.Tests.{valueTests, rowTests, tests, after, stepped, outcome, further}
+
+-- none of some tests, and none of others
+pub none-append : (xs ys : List (Bool × ℕ)) → None (xs ++ ys) → None xs × None ys
+none-append [] ys e = (tt, e)
+none-append ((b, k) ∷ xs) ys e = let r = none-append xs ys (e .1) in ((e .0, r .0), r .1)
+
+pub none-join : (xs ys : List (Bool × ℕ)) → None xs → None ys → None (xs ++ ys)
+none-join [] ys e f = f
+none-join ((b, k) ∷ xs) ys e f = (e .0, none-join xs ys (e .1) f)
+
+pub none-done : (xs : List (Bool × ℕ)) → None xs → firstOf xs ≡ Done
+none-done [] e = refl
+none-done ((b, k) ∷ xs) e = ap (λ t. firstOf ((t, k) ∷ xs)) (e .0) ∙ none-done xs (e .1)
 
 -- what a field that is not refused has
 pub record Passed (l : Level) (s : List ℕ) (at : ℕ) (row : Row) : Type 0 where
@@ -41,18 +55,7 @@ pub row-whole : (l : Level) (s : List ℕ) (at : ℕ) (row : Row) → 3 ≤ leng
 unfolding rowTests
 row-whole l s at row h t n f = simp (le-ltb _ _ h, eq-eqb _ _ t, eq-eqb _ _ n, le-ltb _ _ f)
 
--- row k of a segment, and its end
-pub segment-cons : (rows : List Row) (k to : ℕ) → k < to → to ≤ length rows → segment k to rows ≡ getD rows k noRow ∷ segment (k + 1) to rows
-segment-cons rows k to h b =
-    let short : k < length (take to rows) = rw length-take (omega arith) in
-    rw (add-one, drop-cons (take to rows) k noRow short, getD-take to rows k noRow h)
-
-pub segment-end : (rows : List Row) (k to : ℕ) → to ≤ k → segment k to rows ≡ []
-segment-end rows k to h =
-    let all : length (take to rows) ≤ k = rw length-take (omega arith) in
-    drop-of-length-le (take to rows) all
-
--- one segment after another is both in one table; a test of a whole segment may stand between them
+-- rows after rows; a test of a whole segment may stand between them
 pub tests-append : (l : Level) (s : List ℕ) (at : ℕ) (rows others : List Row) → tests l s at (rows ++ others) ≡ tests l s at rows ++ tests l s (after at rows) others
 unfolding tests after
 tests-append l s at [] others = refl
@@ -60,41 +63,52 @@ tests-append l s at (row ∷ rows) others =
     ap (λ t. rowTests l s at row ++ t) (tests-append l s (at + 3 + row .len) rows others)
     ∙ sym (append-assoc (rowTests l s at row) (tests l s (at + 3 + row .len) rows) (tests l s (after (at + 3 + row .len) rows) others))
 
--- the answer for the rows that are left
-abbrev pub outcome : Level → List ℕ → ℕ → List Row → Step
-outcome l s at rows = stepped (firstOf (tests l s at rows)) (after at rows)
+pub after-append : (at : ℕ) (rows others : List Row) → after at (rows ++ others) ≡ after (after at rows) others
+unfolding after
+after-append at [] others = refl
+after-append at (row ∷ rows) others = after-append (at + 3 + row .len) rows others
 
-pub outcome-go : (l : Level) (s : List ℕ) (at : ℕ) (row : Row) (rows : List Row) → firstOf (rowTests l s at row) ≡ Done → outcome l s (at + 3 + row .len) rows ≡ outcome l s at (row ∷ rows)
-unfolding tests after
-outcome-go l s at row rows e = ap (λ a. stepped a (after (at + 3 + row .len) rows)) (sym (after-done (rowTests l s at row) (tests l s (at + 3 + row .len) rows) e))
+-- a row that is not refused lies within the bytes
+pub head-passed : (l : Level) (s : List ℕ) (at : ℕ) (row : Row) (rows : List Row) → None (tests l s at (row ∷ rows)) → Passed l s at row × None (tests l s (at + 3 + row .len) rows)
+unfolding tests
+head-passed l s at row rows e = let r = none-append (rowTests l s at row) (tests l s (at + 3 + row .len) rows) e in (passed l s at row (r .0), r .1)
 
-pub outcome-stop : (l : Level) (s : List ℕ) (at : ℕ) (row : Row) (rows : List Row) {k : Refusal} → Refused k ≡ firstOf (rowTests l s at row) → step.Refused k ≡ outcome l s at (row ∷ rows)
-unfolding tests after
-outcome-stop l s at row rows e = ap (λ a. stepped a (after (at + 3 + row .len) rows)) (after-refused (rowTests l s at row) (tests l s (at + 3 + row .len) rows) e refl)
+-- what a step says of the answer behind it
+pub step-refused : (a : Answer) (p : ℕ) {r : Refusal} → stepped a p ≡ step.Refused r → a ≡ Refused r
+step-refused Done p e = let z : _≡_ {A = ℕ} 0 1 = cc in absurd (omega arith)
+step-refused (Refused r) p e = cc
 
--- row k of a table, read at a position
-module _ (rows : List Row) (k to at : ℕ) (row : Row) (is : row ≡ getD rows k noRow) (h : k < to) (b : to ≤ length rows) where
-  here : segment k to rows ≡ row ∷ segment (k + 1) to rows
-  here = segment-cons rows k to h b ∙ ap (λ r. r ∷ segment (k + 1) to rows) (sym is)
+pub step-next : (a : Answer) (p : ℕ) {q : ℕ} → stepped a p ≡ step.Next q → (a ≡ Done) × (q ≡ p)
+step-next Done p e = (refl, cc)
+step-next (Refused r) p e = let z : _≡_ {A = ℕ} 0 1 = cc in absurd (omega arith)
 
-  pub walk-go : (l : Level) (s : List ℕ) → firstOf (rowTests l s at row) ≡ Done → outcome l s (at + 3 + row .len) (segment (k + 1) to rows) ≡ outcome l s at (segment k to rows)
-  walk-go l s e = outcome-go l s at row (segment (k + 1) to rows) e ∙ ap (outcome l s at) (sym here)
+-- tests after tests: the first refuse, or the others decide
+module _ (xs ys : List (Bool × ℕ)) (p : ℕ) where
+  pub first-stops : {r : Refusal} → stepped (firstOf xs) p ≡ step.Refused r → Refused r ≡ firstOf (xs ++ ys)
+  first-stops e = let h = step-refused (firstOf xs) p e in sym h ∙ after-refused xs ys refl h
 
-  pub walk-stop : (l : Level) (s : List ℕ) {r : Refusal} → Refused r ≡ firstOf (rowTests l s at row) → step.Refused r ≡ outcome l s at (segment k to rows)
-  walk-stop l s e = outcome-stop l s at row (segment (k + 1) to rows) e ∙ ap (outcome l s at) (sym here)
+  pub first-ends : {at : ℕ} → stepped (firstOf xs) p ≡ step.Next at → (firstOf (xs ++ ys) ≡ firstOf ys) × (at ≡ p)
+  first-ends e = let h = step-next (firstOf xs) p e in (after-done xs ys (h .0), h .1)
 
-  pub part-found : (tag : ℕ) → row .tag ≡ tag → record { start = at + 3; len = row .len } ≡ partOf tag at (segment k to rows)
-  unfolding partOf
-  part-found tag e = rw (here, eq-eqb _ _ e)
+-- the step for rows after rows
+module _ (l : Level) (s : List ℕ) (at : ℕ) where
+  by-step : (rows others : List Row) (r : Step) → outcome l s at rows ≡ r → further r (λ p. outcome l s p others) ≡ outcome l s at (rows ++ others)
+  by-step rows others (step.Next p) e =
+      let h = first-ends (tests l s at rows) (tests l s (after at rows) others) (after at rows) e in
+      ap (λ q. outcome l s q others) (h .1)
+      ∙ ap₂ (λ (a : Answer) (q : ℕ). stepped a q) (sym (h .0) ∙ ap firstOf (sym (tests-append l s at rows others))) (sym (after-append at rows others))
+  by-step rows others (step.Refused r) e =
+      ap (λ a. stepped a (after at (rows ++ others))) (first-stops (tests l s at rows) (tests l s (after at rows) others) (after at rows) e ∙ ap firstOf (sym (tests-append l s at rows others)))
 
-  pub part-past : (tag : ℕ) → (row .tag ≡ tag → ⊥) → partOf tag (at + 3 + row .len) (segment (k + 1) to rows) ≡ partOf tag at (segment k to rows)
-  unfolding partOf
-  part-past tag e = rw (here, ne-eqb _ _ e)
+  pub outcome-more : (rows others : List Row) {r q : Step} → r ≡ outcome l s at rows → q ≡ further r (λ p. outcome l s p others) → q ≡ outcome l s at (rows ++ others)
+  outcome-more rows others {r} e f = f ∙ by-step rows others r (sym e)
 
-pub walk-end : (rows : List Row) (k to at : ℕ) (l : Level) (s : List ℕ) → to ≤ k → step.Next at ≡ outcome l s at (segment k to rows)
-unfolding tests after
-walk-end rows k to at l s h = rw (segment-end rows k to h)
+-- one row, by its answer
+module _ (l : Level) (s : List ℕ) (at : ℕ) (row : Row) where
+  pub row-stops : {r : Refusal} → Refused r ≡ firstOf (rowTests l s at row) → step.Refused r ≡ outcome l s at (row ∷ [])
+  unfolding tests after
+  row-stops e = ap (λ a. stepped a (at + 3 + row .len)) (after-refused (rowTests l s at row) [] e refl)
 
-pub part-none : (rows : List Row) (k to at tag : ℕ) → to ≤ k → empty ≡ partOf tag at (segment k to rows)
-unfolding partOf
-part-none rows k to at tag h = rw (segment-end rows k to h)
+  pub row-ends : firstOf (rowTests l s at row) ≡ Done → step.Next (at + 3 + row .len) ≡ outcome l s at (row ∷ [])
+  unfolding tests after
+  row-ends e = ap (λ a. stepped a (at + 3 + row .len)) (sym (after-done (rowTests l s at row) [] e))

@@ -1,30 +1,16 @@
--- Numbers of two bytes each, from a position on.
-use mathlib.Core.Path.{_≡_, refl}
+-- The test that numbers of two bytes are within the limit, from a position on.
+use mathlib.Core.Path.{_≡_}
 use mathlib.Core.Bool.{true, false}
-use mathlib.Core.List.{List, [], _∷_}
-use Prim.Native.Nat.{ℕ, suc, _+_, _≤_, _<_}
-use native.Mathlib.Numerals.{add-one, add-two}
+use mathlib.Core.List.{List}
+use Prim.Native.Nat.{ℕ, _+_, _≤_, _<_}
 use native.Mathlib.Omega.{arith}
 use borrow.Author.Tests.{le-leb, lt-leb}
 use lib.ListN.{length, drop, length-drop}
-use lib.Seq.{drop-cons}
 use Rattle.lists.specs.Words.{all}
+use Rattle.copying.specs.Words.{word, words}
+use Rattle.copying.proofs.Words.{words-cons, words-short}
 use Rattle.field.specs.declared.Level.{Level}
 use Rattle.field.specs.Word.{within}
-use Rattle.layout.specs.Tests.{word, words}
-
-pub words-cons : (c : List ℕ) (i : ℕ) → i + 1 < length c → words (drop i c) ≡ word c i ∷ words (drop (i + 2) c)
-unfolding words
-words-cons c i h =
-    let near : i < length c = omega arith in
-    let far : suc i < length c = omega arith in
-    rw (add-two, add-one i, drop-cons c i 0 near, drop-cons c (suc i) 0 far)
-
-pub words-short : (c : List ℕ) → length c < 2 → words c ≡ []
-unfolding words
-words-short [] h = refl
-words-short (a ∷ []) h = refl
-words-short (a ∷ b ∷ t) h = absurd (omega arith)
 
 module _ (l : Level) (c : List ℕ) (i : ℕ) where
   pub words-stop : i + 1 < length c → l .limit < word c i → false ≡ within l (words (drop i c))

@@ -1,13 +1,16 @@
--- The fields of packages and check files, in order: the specification, 'Packages and check files'.
+-- The fields of packages and check files, in order: the specification, 'Packages and check files'. A segment is the rows of fields
+-- that stand together; which they are may depend on the key, on the bytes and on the position where the segment starts.
+use mathlib.Core.Bool.{Bool}
 use mathlib.Core.List.{List, [], _∷_, _++_}
-use Prim.Native.Nat.{_-_, _*_}
+use Prim.Native.Nat.{ℕ, _*_}
 use Rattle.field.specs.declared.Level.{Level}
 use Rattle.key.specs.declared.Key.{Key}
-use Rattle.key.specs.Key.{shape, lengths}
+use Rattle.key.specs.Key.{lengths}
 use Rattle.layout.specs.declared.Row.{Row}
 use Rattle.layout.specs.declared.Kind.the-variants.{Sizes, Elements, Any, Bits, Coordinates}
+use Rattle.layout.specs.Tests.{keyOf, tests, after, endTests}
 
-module _ (l : Level) (key : Key) where
+module _ (l : Level) (key : Key) (s : List ℕ) (at : ℕ) where
   -- "01 sizes (n, m, one byte each); 02 H (2mn bytes); 03 x (2n)"
   abbrev pub keyRows : List Row
   keyRows =
@@ -21,22 +24,57 @@ module _ (l : Level) (key : Key) where
   groupRows =
       record { tag = 0x05; len = 2; kind = Any }
       ∷ record { tag = 0x06; len = lengths l key .bits; kind = Bits }
-      ∷ record { tag = 0x07; len = 2 * (l .coordinates * shape key .degree); kind = Coordinates }
+      ∷ record { tag = 0x07; len = 2 * lengths l key .proof; kind = Coordinates }
       ∷ []
 
   -- "11 q (24nd), 12 mask numbers (24(d - 1), the only field that may be empty), 13 Δ (24), 14 α (24(n + m))"
   abbrev pub checkRows : List Row
   checkRows =
       record { tag = 0x11; len = 2 * lengths l key .elements; kind = Coordinates }
-      ∷ record { tag = 0x12; len = 2 * (l .coordinates * (shape key .degree - 1)); kind = Coordinates }
+      ∷ record { tag = 0x12; len = 2 * lengths l key .masks; kind = Coordinates }
       ∷ record { tag = 0x13; len = 2 * lengths l key .one; kind = Coordinates }
       ∷ record { tag = 0x14; len = 2 * lengths l key .values; kind = Coordinates }
       ∷ []
 
-  -- "A package has exactly these fields in this order"
-  unfoldable pub packageRows : List Row
-  packageRows = keyRows ++ groupRows
+-- the segments of bytes whose key is told by field 01, where each ends, and its tests
+module _ (l : Level) (s : List ℕ) where
+  abbrev pub keySegment : List Row
+  keySegment = keyRows l (keyOf s) s 0
 
-  -- "A check file is a package followed by" these
+  abbrev pub keyEnd : ℕ
+  keyEnd = after 0 keySegment
+
+  abbrev pub keyTests : List (Bool × ℕ)
+  keyTests = tests l s 0 keySegment
+
+  abbrev pub groupSegment : List Row
+  groupSegment = groupRows l (keyOf s) s keyEnd
+
+  abbrev pub groupEnd : ℕ
+  groupEnd = after keyEnd groupSegment
+
+  abbrev pub groupTests : List (Bool × ℕ)
+  groupTests = tests l s keyEnd groupSegment
+
+  abbrev pub checkSegment : List Row
+  checkSegment = checkRows l (keyOf s) s groupEnd
+
+  abbrev pub checkEnd : ℕ
+  checkEnd = after groupEnd checkSegment
+
+  abbrev pub checkTests : List (Bool × ℕ)
+  checkTests = tests l s groupEnd checkSegment
+
+  -- "A package has exactly these fields in this order", those of the key and of one group, "then P6"
+  unfoldable pub packageRows : List Row
+  packageRows = keySegment ++ groupSegment
+
+  abbrev pub packageTests : List (Bool × ℕ)
+  packageTests = keyTests ++ groupTests ++ endTests s groupEnd
+
+  -- "A check file is a package followed by" those of the check
   unfoldable pub checkFileRows : List Row
-  checkFileRows = packageRows ++ checkRows
+  checkFileRows = packageRows ++ checkSegment
+
+  abbrev pub checkFileTests : List (Bool × ℕ)
+  checkFileTests = keyTests ++ groupTests ++ checkTests ++ endTests s checkEnd

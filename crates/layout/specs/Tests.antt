@@ -1,10 +1,13 @@
 -- The tests that the readers run on any bytes, and where a field's content stands.
+use mathlib.Core.Path.{_≡_}
 use mathlib.Core.Bool.{Bool, not, cond}
 use mathlib.Core.List.{List, [], _∷_, _++_}
-use Prim.Native.Nat.{ℕ, _+_, _-_, _*_}
+use Prim.Native.Nat.{ℕ, _+_, _-_}
 use lib.Dec.{ltb, eqb}
-use lib.ListN.{length, getD, take, drop}
+use lib.ListN.{length, getD}
 use Rattle.lists.specs.Words.{part}
+use Rattle.copying.specs.Words.{word, words}
+use Rattle.refusal.specs.Answer.{firstOf}
 use Rattle.refusal.specs.declared.Answer.{Answer}
 use Rattle.refusal.specs.declared.Answer.the-variants as answer
 use Rattle.field.specs.declared.Level.{Level}
@@ -17,16 +20,6 @@ use Rattle.layout.specs.declared.Kind.{Kind}
 use Rattle.layout.specs.declared.Kind.the-variants.{Sizes, Elements, Any, Bits, Coordinates}
 use Rattle.layout.specs.declared.Step.{Step}
 use Rattle.layout.specs.declared.Step.the-variants as step
-
--- "All numbers of two bytes are highest byte first": the number at a position
-abbrev pub word : List ℕ → ℕ → ℕ
-word s at = getD s at 0 * 256 + getD s (at + 1) 0
-
--- a content as such numbers
-unfoldable pub words : List ℕ → List ℕ
-words [] = []
-words (a ∷ []) = []
-words (a ∷ b ∷ s) = (a * 256 + b) ∷ words s
 
 -- "n, m, one byte each", at a position
 abbrev pub keyAt : List ℕ → ℕ → Key
@@ -63,16 +56,14 @@ unfoldable pub after : ℕ → List Row → ℕ
 after at [] = at
 after at (row ∷ rows) = after (at + 3 + row .len) rows
 
--- "then P6": bytes follow the last field
-abbrev pub fileTests : Level → List Row → List ℕ → List (Bool × ℕ)
-fileTests l rows s = tests l s 0 rows ++ ((ltb (after 0 rows) (length s), 12) ∷ [])
+-- P6: bytes follow the last field, which ends at a position
+abbrev pub endTests : List ℕ → ℕ → List (Bool × ℕ)
+endTests s at = (ltb at (length s), 12) ∷ []
 
--- rows from one to another of a table, and what a table has past its end
-abbrev pub segment : ℕ → ℕ → List Row → List Row
-segment from to rows = drop from (take to rows)
-
-abbrev pub noRow : Row
-noRow = record { tag = 0; len = 0; kind = Any }
+-- rows that refuse nothing of the bytes and end with them
+pub record Whole (l : Level) (s : List ℕ) (rows : List Row) : Type 0 where
+  pub accepted : firstOf (tests l s 0 rows) ≡ answer.Done
+  pub ends : after 0 rows ≡ length s
 
 -- the part of the lent bytes that stands for nothing: length 0, at their start
 abbrev pub empty : Part
@@ -83,7 +74,16 @@ unfoldable pub partOf : ℕ → ℕ → List Row → Part
 partOf tag at [] = empty
 partOf tag at (row ∷ rows) = cond (eqb (row .tag) tag) (record { start = at + 3; len = row .len }) (partOf tag (at + 3 + row .len) rows)
 
--- the answer for a step: its end, or the refusal
+-- a step: where fields end, or their refusal
 abbrev pub stepped : Answer → ℕ → Step
 stepped answer.Done end = step.Next end
 stepped (answer.Refused r) end = step.Refused r
+
+-- the step for fields from a position on
+abbrev pub outcome : Level → List ℕ → ℕ → List Row → Step
+outcome l s at rows = stepped (firstOf (tests l s at rows)) (after at rows)
+
+-- a step after another, whose refusal stays
+abbrev pub further : Step → (ℕ → Step) → Step
+further (step.Next at) next = next at
+further (step.Refused r) next = step.Refused r

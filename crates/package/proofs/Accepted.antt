@@ -1,71 +1,72 @@
--- What a file that is not refused has: sizes, and parts within the bytes.
-use mathlib.Core.Path.{_≡_, refl, sym, ap, _∙_}
-use mathlib.Core.Bool.{Bool, true, false, cond}
+-- What bytes that a reader accepts have: sizes, and rows that end with them.
+use mathlib.Core.Path.{_≡_, refl, sym, ap, subst, _∙_}
 use mathlib.Core.List.{List, [], _∷_, _++_}
-use Prim.Native.Nat.{ℕ, zero, suc, _+_, _≤_, _<_}
+use Prim.Native.Nat.{ℕ, _+_, _≤_}
 use native.Mathlib.Omega.{arith}
-use lib.Dec.{eqb}
-use lib.ListN.{length, take}
+use borrow.Author.Tests.{ltb-false, le-ltb}
+use lib.ListN.{length}
 use Rattle.refusal.specs.Answer.{firstOf}
-use Rattle.refusal.proofs.Answers.{None, none}
 use Rattle.refusal.specs.declared.Answer.{Answer}
 use Rattle.refusal.specs.declared.Answer.the-variants.{Done, Refused}
+use Rattle.refusal.proofs.Answers.{None, none, pass, after-done}
 use Rattle.field.specs.declared.Level.{Level}
-use Rattle.key.specs.declared.Key.{Key}
 use Rattle.key.specs.Key.{Sized}
 use Rattle.layout.specs.declared.Row.{Row}
-use Rattle.layout.specs.Layout.{packageRows, checkFileRows}
-use Rattle.layout.specs.Tests.{keyOf, rowTests, tests, fileTests, segment, partOf}
-use Rattle.layout.proofs.Rows.{passed}
-use Rattle.layout.proofs.Files.{sizesRow, sized-key, rows-first}
-use Rattle.package.specs.Reading.{partIf, fieldPart}
+use Rattle.layout.specs.Layout.{packageRows, packageTests, checkFileRows, checkFileTests}
+use Rattle.layout.specs.Tests.{keyOf, tests, after, endTests, Whole}
+use Rattle.package.specs.declared.Contents.{Contents}
+use Rattle.package.specs.declared.Read.the-variants.{Fields}
+use Rattle.package.specs.Reading.{Reader, readAs, contentsOf, reading}
+use Rattle.layout.proofs.Rows.{none-append, none-done, head-passed}
+use Rattle.layout.proofs.Files.{first-sized, package-tests, check-file-tests}
 
--- none of some tests, and none of others
-pub none-append : (xs ys : List (Bool × ℕ)) → None (xs ++ ys) → None xs × None ys
-none-append [] ys e = (tt, e)
-none-append ((b, k) ∷ xs) ys e = let r = none-append xs ys (e .1) in ((e .0, r .0), r .1)
+-- fields that are not refused end within the bytes
+after-within : (l : Level) (s : List ℕ) (at : ℕ) (rows : List Row) → at ≤ length s → None (tests l s at rows) → after at rows ≤ length s
+unfolding after
+after-within l s at [] h e = h
+after-within l s at (row ∷ rows) h e =
+    let w = head-passed l s at row rows e in
+    after-within l s (at + 3 + row .len) rows (w .0 .fits) (w .1)
 
-pub none-join : (xs ys : List (Bool × ℕ)) → None xs → None ys → None (xs ++ ys)
-none-join [] ys e f = f
-none-join ((b, k) ∷ xs) ys e f = (e .0, none-join xs ys (e .1) f)
+pub whole : (l : Level) (s : List ℕ) (rows : List Row) → None (tests l s 0 rows ++ endTests s (after 0 rows)) → Whole l s rows
+whole l s rows e =
+    let both = none-append (tests l s 0 rows) (endTests s (after 0 rows)) e in
+    record {
+      accepted = none-done (tests l s 0 rows) (both .0);
+      ends = omega (arith, after-within l s 0 rows (omega arith) (both .0), ltb-false (after 0 rows) (length s) (both .1 .0));
+    }
 
--- the parts of fields that are not refused lie within the bytes
-pub part-within : (l : Level) (s : List ℕ) (tag at : ℕ) (rows : List Row) → None (tests l s at rows) → partOf tag at rows .start + partOf tag at rows .len ≤ length s
-unfolding tests partOf
-part-within l s tag at [] e = omega arith
-part-within l s tag at (row ∷ rows) e =
-    let r = none-append (rowTests l s at row) (tests l s (at + 3 + row .len) rows) e in
-    pick (eqb (row .tag) tag) (passed l s at row (r .0) .fits) (part-within l s tag (at + 3 + row .len) rows (r .1))
-  where
-    pick : (b : Bool) → at + 3 + row .len ≤ length s → partOf tag (at + 3 + row .len) rows .start + partOf tag (at + 3 + row .len) rows .len ≤ length s
-        → (let p = cond b (record { start = at + 3; len = row .len }) (partOf tag (at + 3 + row .len) rows) in p .start + p .len ≤ length s)
-    pick true here later = here
-    pick false here later = later
+pub passes : (l : Level) (s : List ℕ) (rows : List Row) → Whole l s rows → firstOf (tests l s 0 rows ++ endTests s (after 0 rows)) ≡ Done
+passes l s rows w = after-done (tests l s 0 rows) (endTests s (after 0 rows)) (w .accepted) ∙ pass 12 [] (le-ltb (after 0 rows) (length s) (omega (arith, w .ends)))
 
-pub file-within : (l : Level) (s : List ℕ) (tag : ℕ) (rows : List Row) → firstOf (fileTests l rows s) ≡ Done → partOf tag 0 rows .start + partOf tag 0 rows .len ≤ length s
-file-within l s tag rows e = part-within l s tag 0 rows (none-append (tests l s 0 rows) _ (none (fileTests l rows s) e) .0)
+module _ (l : Level) (s : List ℕ) where
+  pub package-whole : firstOf (packageTests l s) ≡ Done → Whole l s (packageRows l s)
+  package-whole e = whole l s (packageRows l s) (subst None (package-tests l s) (none (packageTests l s) e))
 
-pub field-within : (l : Level) (rows : Key → List Row) (s : List ℕ) (tag : ℕ) → fieldPart l rows s tag .start + fieldPart l rows s tag .len ≤ length s
-field-within l rows s tag = go (firstOf (fileTests l (rows (keyOf s)) s)) refl
-  where
-    go : (r : Answer) → firstOf (fileTests l (rows (keyOf s)) s) ≡ r → partIf r (partOf tag 0 (rows (keyOf s))) .start + partIf r (partOf tag 0 (rows (keyOf s))) .len ≤ length s
-    go Done e = file-within l s tag (rows (keyOf s)) e
-    go (Refused k) e = omega arith
+  pub check-file-whole : firstOf (checkFileTests l s) ≡ Done → Whole l s (checkFileRows l s)
+  check-file-whole e = whole l s (checkFileRows l s) (subst None (check-file-tests l s) (none (checkFileTests l s) e))
 
--- a file that is not refused has sizes
-pub file-sized : (l : Level) (s : List ℕ) (count : ℕ) → 0 < count → firstOf (fileTests l (take count (checkFileRows l (keyOf s))) s) ≡ Done → Sized l (keyOf s)
-unfolding tests
-file-sized l s count h e =
-    let rows = segment 1 count (checkFileRows l (keyOf s)) in
-    let first = none (fileTests l (sizesRow ∷ rows) s) (ap (λ r. firstOf (fileTests l r s)) (sym (rows-first l (keyOf s) count h)) ∙ e) in
-    let all = none-append (rowTests l s 0 sizesRow ++ tests l s 5 rows) _ first in
-    sized-key l s (none-append (rowTests l s 0 sizesRow) (tests l s 5 rows) (all .0) .0)
+  pub package-passes : Whole l s (packageRows l s) → firstOf (packageTests l s) ≡ Done
+  package-passes w = ap firstOf (package-tests l s) ∙ passes l s (packageRows l s) w
 
--- the serial is two bytes
-pub serial-len : (l : Level) (key : Key) (count : ℕ) → 3 < count → partOf 0x05 0 (take count (checkFileRows l key)) .len ≡ 2
-unfolding checkFileRows packageRows partOf
-serial-len l key zero h = absurd (omega arith)
-serial-len l key (suc zero) h = absurd (omega arith)
-serial-len l key (suc (suc zero)) h = absurd (omega arith)
-serial-len l key (suc (suc (suc zero))) h = absurd (omega arith)
-serial-len l key (suc (suc (suc (suc k)))) h = refl
+  pub check-file-passes : Whole l s (checkFileRows l s) → firstOf (checkFileTests l s) ≡ Done
+  check-file-passes w = ap firstOf (check-file-tests l s) ∙ passes l s (checkFileRows l s) w
+
+  -- field 01 comes first
+  pub package-sized : firstOf (packageTests l s) ≡ Done → Sized l (keyOf s)
+  unfolding packageRows
+  package-sized e = first-sized l s _ (none (tests l s 0 (packageRows l s)) (package-whole e .accepted))
+
+  pub check-file-sized : firstOf (checkFileTests l s) ≡ Done → Sized l (keyOf s)
+  unfolding packageRows checkFileRows
+  check-file-sized e = first-sized l s _ (none (tests l s 0 (checkFileRows l s)) (check-file-whole e .accepted))
+
+fields-only : (a : Answer) (c : Contents) {d : Contents} → readAs a c ≡ Fields d → (a ≡ Done) × (c ≡ d)
+fields-only Done c e = (refl, cc)
+fields-only (Refused r) c e = let z : _≡_ {A = ℕ} 0 1 = cc in absurd (omega arith)
+
+-- a reader that answers with contents refuses nothing, and its n and m are the file's
+pub read-accepts : (reader : Reader) (s : List ℕ) {c : Contents} → reading reader s ≡ Fields c → (firstOf (reader .tests s) ≡ Done) × (record { n = c .n; m = c .m } ≡ keyOf s)
+read-accepts reader s e =
+    let f = fields-only (firstOf (reader .tests s)) (contentsOf s (reader .rows s)) e in
+    (f .0, ap (λ (c : Contents). record { n = c .n; m = c .m }) (sym (f .1)))

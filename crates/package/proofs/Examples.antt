@@ -5,14 +5,15 @@ use Prim.Native.Nat.{ℕ}
 use lib.Count.{leadingZeros}
 use lib.ListN.{replicate, take, set}
 use Rattle.lists.specs.Words.{all}
+use Rattle.copying.specs.Words.{words}
 use Rattle.field.specs.Level.{FIRST, levelAt}
 use Rattle.field.specs.Word.{within}
 use Rattle.key.specs.Key.{degree, below}
 use Rattle.layout.specs.Layout.{packageRows, checkFileRows}
-use Rattle.layout.specs.Tests.{words, rowTests, tests, after, partOf}
+use Rattle.layout.specs.Tests.{rowTests, tests, after, partOf}
 use Rattle.package.specs.declared.Read.{Read}
 use Rattle.package.specs.declared.Read.the-variants.{Fields, Refused}
-use Rattle.package.specs.Reading.{reading}
+use Rattle.package.specs.Reading.{packageReader, checkFileReader, reading}
 
 -- an element of K with only coordinate 0, before other bytes
 abbrev element : ℕ → List ℕ → List ℕ
@@ -26,10 +27,10 @@ keyA =
     (0x12 ∷ 0 ∷ 0 ∷ 0x13 ∷ 0 ∷ 0x18 ∷ element 2 (0x14 ∷ 0 ∷ 0x48 ∷ element 1 (element 2 (element 1 []))))))
 
 abbrev readCheck : List ℕ → Read
-readCheck s = reading (levelAt FIRST) (checkFileRows (levelAt FIRST)) s
+readCheck s = reading (checkFileReader (levelAt FIRST)) s
 
 abbrev readPackage : List ℕ → Read
-readPackage s = reading (levelAt FIRST) (packageRows (levelAt FIRST)) s
+readPackage s = reading (packageReader (levelAt FIRST)) s
 
 abbrev refused : ℕ → Read
 refused k = Refused (record { number = k })

@@ -1,31 +1,26 @@
--- The laws of any form of file, from those of its fields.
+-- The laws of any form of file, from those of its segments.
 use mathlib.Core.Path.{_≡_, refl, sym, ap, ap₂, _∙_, subst}
-use mathlib.Core.Bool.{Bool}
-use mathlib.Core.List.{List, [], _∷_, _++_, append-nil}
+use mathlib.Core.List.{List, [], _++_, append-nil}
 use Prim.Native.Nat.{ℕ, _+_, _*_, _≤_}
 use native.Mathlib.Nat.{add-zero}
 use native.Mathlib.Omega.{arith}
-use borrow.Author.Tests.{ltb-false, le-ltb}
-use lib.Dec.{ltb}
 use lib.ListN.{length, getD, drop, length-take, drop-of-length-le}
 use Rattle.lists.specs.Words.{part}
 use Rattle.lists.proofs.Words.{part-at}
+use Rattle.copying.specs.Words.{Bytes, word, twoBytes}
+use Rattle.copying.proofs.Bytes.{two-word}
 use Rattle.refusal.specs.Answer.{firstOf}
 use Rattle.refusal.proofs.Answers.{None, none}
-use Rattle.refusal.specs.declared.Answer.the-variants.{Done}
 use Rattle.field.specs.declared.Level.{Level}
 use Rattle.key.specs.declared.Key.{Key}
-use Rattle.layout.specs.Tests.{word, keyOf, tests, fileTests, after, partOf}
+use Rattle.layout.specs.declared.Row.{Row}
+use Rattle.layout.specs.Tests.{keyOf, tests, after, Whole, partOf}
+use Rattle.layout.proofs.Rows.{none-done}
 use Rattle.package.specs.declared.Read.the-variants.{Fields}
-use Rattle.package.specs.Reading.{partIf, readAs, reading}
-use Rattle.package.specs.Written.{Bytes, twoBytes, joined, contentOf, Form, written, Accepted, handed, Faithful}
-use Rattle.package.proofs.Accepted.{none-append, none-join}
-use Rattle.package.proofs.Bytes.{two-word}
-use Rattle.package.proofs.Joined.{Fits, AllBytes, joined-bytes, cut, part-cut, Back, read-back, exact, cut-fits}
-
-done : (tests : List (Bool × ℕ)) → None tests → firstOf tests ≡ Done
-done [] e = refl
-done ((b, k) ∷ tests) e = ap (λ t. firstOf ((t, k) ∷ tests)) (e .0) ∙ done tests (e .1)
+use Rattle.package.specs.Reading.{partIf, readAs, contentsOf, reading}
+use Rattle.package.specs.Written.{joined, contentOf, Form, written, Accepted, handed, Faithful}
+use Rattle.package.proofs.Joined.{joined-bytes, cut, part-cut, Back, read-back, exact}
+use Rattle.package.proofs.Segments.{SegmentLaws, OpeningLaws}
 
 -- a number whose two bytes are a part
 word-part : (s : List ℕ) (i n x : ℕ) → part i n s ≡ twoBytes x → word s i ≡ x
@@ -35,57 +30,67 @@ word-part s i n x e =
     let low : getD s (i + 1) 0 ≡ getD (twoBytes x) 1 0 = sym (part-at i n s 1 (omega arith)) ∙ ap (λ t. getD t 1 0) e in
     ap₂ (λ (a b : ℕ). a * 256 + b) high low ∙ two-word x
 
--- what a form owes: unpack makes the data of a key and fields
-pub record FormLaws (l : Level) (form : Form l) : Type 0 where
-  pub unpack : Key → List (ℕ × List ℕ) → form .Data
-  pub fits : (x : form .Data) → form .Limits x → Fits l (form .rows (form .key x)) (form .fields x)
-  pub bytes : (x : form .Data) → form .Limits x → AllBytes (form .fields x)
-  pub starts : (x : form .Data) → keyOf (joined (form .fields x)) ≡ form .key x
-  pub serial : (x : form .Data) → contentOf 0x05 (form .fields x) ≡ twoBytes (form .serial x)
-  pub packed : (x : form .Data) → unpack (form .key x) (form .fields x) ≡ x
-  pub unpacked : (s : List ℕ) → Bytes s → let fields = cut s 0 (form .rows (keyOf s)) in
-      Fits l (form .rows (keyOf s)) fields → form .Limits (unpack (keyOf s) fields) × (form .fields (unpack (keyOf s) fields) ≡ fields)
+module _ (l : Level) (form : Form) (table : form .Data → List Row) (rows : List ℕ → ℕ → List Row) (Before : List ℕ → Type 0) where
+  -- what a form owes: its fields are a segment from the start on, and it is accepted where their rows refuse nothing and end with it
+  pub record FormLaws : Type 0 where
+    pub opening : OpeningLaws l (form .fields) (form .Limits) table rows Before (form .key)
+    pub serial : (x : form .Data) → contentOf 0x05 (form .fields x) ≡ twoBytes (form .serial x)
+    pub last : Before []
+    pub told : (s : List ℕ) → form .reader .rows s ≡ rows s 0
+    pub whole : (s : List ℕ) → Accepted form s → Whole l s (form .reader .rows s)
+    pub passes : (x : form .Data) → form .Limits x → let s = written form x in Whole l s (form .reader .rows s) → Accepted form s
 
-module _ (l : Level) (form : Form l) (f : FormLaws l form) where
-  -- the fields of a file that is written, read by the rows of its own bytes
-  back : (x : form .Data) → form .Limits x → Back l (written form x) 0 (form .rows (keyOf (written form x))) (form .fields x)
-  back x v = subst (λ key. Back l (written form x) 0 (form .rows key) (form .fields x)) (sym (f .starts x)) (read-back l [] (form .rows (form .key x)) (form .fields x) (f .fits x v))
+  module _ (f : FormLaws) where
+    abbrev laws : SegmentLaws l (form .fields) (form .Limits) table rows Before
+    laws = f .opening .laws
 
-  written-accepted : (x : form .Data) → form .Limits x → Accepted form (written form x)
-  written-accepted x v =
-      let r = back x v in
-      let rows = form .rows (keyOf (written form x)) in
-      done (fileTests l rows (written form x)) (none-join (tests l (written form x) 0 rows) ((ltb (after 0 rows) (length (written form x)), 12) ∷ []) (r .accepted) (le-ltb (after 0 rows) (length (written form x)) (omega (arith, r .ends)), tt))
+    -- the rows of a file that is written are the table of what was written
+    rows-written : (x : form .Data) → form .Limits x → form .reader .rows (written form x) ≡ table x
+    rows-written x v = f .told (written form x) ∙ ap (λ s. rows s 0) (sym (append-nil (joined (form .fields x)))) ∙ laws .there [] [] (f .last) x v
 
-  content-of : (x : form .Data) → form .Limits x → (tag : ℕ) → let p = partOf tag 0 (form .rows (keyOf (written form x))) in part (p .start) (p .len) (written form x) ≡ contentOf tag (form .fields x)
-  content-of x v tag = part-cut (written form x) tag 0 (form .rows (keyOf (written form x))) ∙ ap (contentOf tag) (back x v .same)
+    back : (x : form .Data) → form .Limits x → Back l (written form x) 0 (form .reader .rows (written form x)) (form .fields x)
+    back x v = subst (λ t. Back l (written form x) 0 t (form .fields x)) (sym (rows-written x v)) (read-back l [] (table x) (form .fields x) (laws .fits x v))
 
-  accepted-written : (s : List ℕ) → Bytes s → Accepted form s → (x : form .Data) × form .Limits x × (s ≡ written form x)
-  accepted-written s b e =
-      let rows = form .rows (keyOf s) in
-      let both = none-append (tests l s 0 rows) ((ltb (after 0 rows) (length s), 12) ∷ []) (none (fileTests l rows s) e) in
-      let u = f .unpacked s b (cut-fits l s b 0 rows (both .0)) in
-      let all : s ≡ joined (cut s 0 rows) = exact l s b 0 rows (both .0)
-      ∙ ap (λ t. joined (cut s 0 rows) ++ t) (drop-of-length-le s {i = after 0 rows} (ltb-false (after 0 rows) (length s) (both .1 .0)))
-      ∙ append-nil (joined (cut s 0 rows)) in
-      (f .unpack (keyOf s) (cut s 0 rows), u .0, all ∙ ap joined (sym (u .1)))
+    starts : (x : form .Data) → form .Limits x → keyOf (written form x) ≡ form .key x
+    starts x v = ap keyOf (sym (append-nil (joined (form .fields x)))) ∙ f .opening .starts [] [] x v
 
-  read-written : (x : form .Data) → form .Limits x → reading l (form .rows) (written form x) ≡ Fields (record { n = form .key x .n; m = form .key x .m; serial = form .serial x })
-  read-written x v =
-      let p = partOf 0x05 0 (form .rows (keyOf (written form x))) in
-      let serial = word-part (written form x) (p .start) (p .len) (form .serial x) (content-of x v 0x05 ∙ f .serial x) in
-      ap (λ a. readAs a (record { n = keyOf (written form x) .n; m = keyOf (written form x) .m; serial = word (written form x) (p .start) })) (written-accepted x v)
-      ∙ ap₂ (λ (key : Key) (k : ℕ). Fields (record { n = key .n; m = key .m; serial = k })) (f .starts x) serial
+    written-accepted : (x : form .Data) → form .Limits x → Accepted form (written form x)
+    written-accepted x v = let r = back x v in f .passes x v (record { accepted = none-done (tests l (written form x) 0 (form .reader .rows (written form x))) (r .accepted); ends = r .ends })
 
-  written-injective : (x y : form .Data) → form .Limits x → form .Limits y → written form x ≡ written form y → x ≡ y
-  written-injective x y v w e =
-      let key = sym (f .starts x) ∙ ap keyOf e ∙ f .starts y in
-      let fields = sym (back x v .same) ∙ ap (λ s. cut s 0 (form .rows (keyOf s))) e ∙ back y w .same in
-      sym (f .packed x) ∙ ap₂ (f .unpack) key fields ∙ f .packed y
+    content-of : (x : form .Data) → form .Limits x → (tag : ℕ) → let p = partOf tag 0 (form .reader .rows (written form x)) in part (p .start) (p .len) (written form x) ≡ contentOf tag (form .fields x)
+    content-of x v tag = part-cut (written form x) tag 0 (form .reader .rows (written form x)) ∙ ap (contentOf tag) (back x v .same)
 
-  handed-written : (x : form .Data) → form .Limits x → (tag : ℕ) → handed form (written form x) tag ≡ contentOf tag (form .fields x)
-  handed-written x v tag =
-      ap (λ a. let p = partIf a (partOf tag 0 (form .rows (keyOf (written form x)))) in part (p .start) (p .len) (written form x)) (written-accepted x v) ∙ content-of x v tag
+    accepted-written : (s : List ℕ) → Bytes s → Accepted form s → (x : form .Data) × form .Limits x × (s ≡ written form x)
+    accepted-written s b e =
+        let w = subst (Whole l s) (f .told s) (f .whole s e) in
+        let passed = none (tests l s 0 (rows s 0)) (w .accepted) in
+        let r = laws .read s b 0 passed in
+        let ends : length s ≤ after 0 (rows s 0) = omega (arith, w .ends) in
+        let all : s ≡ joined (cut s 0 (rows s 0)) = exact l s b 0 (rows s 0) passed
+        ∙ ap (λ t. joined (cut s 0 (rows s 0)) ++ t) (drop-of-length-le s {i = after 0 (rows s 0)} ends)
+        ∙ append-nil (joined (cut s 0 (rows s 0))) in
+        (r .0, r .1, all ∙ ap joined (sym (r .2)))
 
-  pub faithful : Faithful form
-  faithful = record { accepted = accepted-written; read = read-written; bytes = λ x v. joined-bytes l (form .rows (form .key x)) (form .fields x) (f .fits x v) (f .bytes x v); injective = written-injective; contents = handed-written }
+    read-written : (x : form .Data) → form .Limits x → reading (form .reader) (written form x) ≡ Fields (record { n = form .key x .n; m = form .key x .m; serial = form .serial x })
+    read-written x v =
+        let t = form .reader .rows (written form x) in
+        let p = partOf 0x05 0 t in
+        let serial = word-part (written form x) (p .start) (p .len) (form .serial x) (content-of x v 0x05 ∙ f .serial x) in
+        ap (λ a. readAs a (contentsOf (written form x) t)) (written-accepted x v)
+        ∙ ap₂ (λ (key : Key) (k : ℕ). Fields (record { n = key .n; m = key .m; serial = k })) (starts x v) serial
+
+    written-injective : (x y : form .Data) → form .Limits x → form .Limits y → written form x ≡ written form y → x ≡ y
+    written-injective x y v w e = laws .single x y v w (sym (back x v .same) ∙ ap (λ s. cut s 0 (form .reader .rows s)) e ∙ back y w .same)
+
+    handed-written : (x : form .Data) → form .Limits x → (tag : ℕ) → handed form (written form x) tag ≡ contentOf tag (form .fields x)
+    handed-written x v tag =
+        ap (λ a. let p = partIf a (partOf tag 0 (form .reader .rows (written form x))) in part (p .start) (p .len) (written form x)) (written-accepted x v) ∙ content-of x v tag
+
+    pub faithful : Faithful form
+    faithful = record {
+      accepted = accepted-written;
+      read = read-written;
+      bytes = λ x v. joined-bytes l (table x) (form .fields x) (laws .fits x v) (laws .bytes x v);
+      injective = written-injective;
+      contents = handed-written;
+    }

@@ -1,12 +1,16 @@
--- Packages and check files are read faithfully.
+-- The laws of the three segments, at any position, and of packages and check files.
 use mathlib.Core.Path.{_≡_, refl, sym, ap, ap₂, _∙_, subst}
 use mathlib.Core.Bool.{true, not}
 use mathlib.Core.List.{List, [], _∷_, _++_}
-use Prim.Native.Nat.{ℕ, zero, suc, _*_, _<_}
+use Prim.Native.Nat.{ℕ, zero, suc, _+_, _*_, _<_}
+use native.Mathlib.Nat.{add-assoc}
 use native.Mathlib.Omega.{arith}
 use borrow.Author.Tests.{lt-leb, le-ltb, ne-eqb, not-false}
 use lib.ListN.{length}
+use lib.Seq.{getD-append-add}
 use Rattle.lists.specs.Words.{part}
+use Rattle.copying.specs.Words.{Bytes, word, words, wordBytes}
+use Rattle.copying.proofs.Bytes.{words-bytes, bytes-length, words-length, bytes-words, two-word, word-two, word-lt, two-bytes, word-bytes}
 use Rattle.refusal.proofs.Answers.{None}
 use Rattle.field.specs.declared.Level.{Level}
 use Rattle.field.specs.Level.{FIRST, levelAt}
@@ -18,13 +22,14 @@ use Rattle.key.proofs.Fine.{within-le, below-lt}
 use Rattle.layout.specs.declared.Row.{Row}
 use Rattle.layout.specs.declared.Kind.{Kind}
 use Rattle.layout.specs.declared.Kind.the-variants.{Elements, Coordinates}
-use Rattle.layout.specs.Layout.{checkRows, packageRows, checkFileRows}
-use Rattle.layout.specs.Tests.{word, words, keyAt, keyOf, valueTests, after}
-use Rattle.layout.proofs.Files.{key-part}
+use Rattle.layout.specs.Layout.{keyRows, groupRows, checkRows, packageRows, checkFileRows}
+use Rattle.layout.specs.Tests.{keyAt, keyOf, valueTests, tests, after}
+use Rattle.layout.proofs.Files.{key-part, package-end}
 use Rattle.layout.proofs.Bounds.{bounds}
-use Rattle.package.specs.Written.{Bytes, wordBytes, joined, contentOf, Package, Check, packageFields, checkFields, Within, Valid, ValidCheck, packageForm, checkForm, Faithful}
-use Rattle.package.proofs.Bytes.{words-bytes, bytes-length, words-length, bytes-words, two-word, word-two, word-lt, two-bytes, word-bytes}
-use Rattle.package.proofs.Joined.{Fit, Fits, AllBytes, cut, content-bytes, fits-append, fits-split}
+use Rattle.package.specs.Written.{joined, contentOf, KeyData, Group, Check, keyFields, groupFields, checkFields, Within, ValidKey, ValidGroup, ValidCheck, packageForm, checkForm, Faithful}
+use Rattle.package.proofs.Accepted.{package-whole, package-passes, check-file-whole, check-file-passes}
+use Rattle.package.proofs.Joined.{Fit, Fits, AllBytes, cut, content-bytes, cut-fits}
+use Rattle.package.proofs.Segments.{SegmentLaws, OpeningLaws, followed}
 use Rattle.package.proofs.Faithful.{FormLaws, faithful}
 
 -- sizes that are not refused
@@ -51,47 +56,6 @@ test-elements l c e = (ap not e, tt)
 test-coordinates : (l : Level) (c : List ℕ) → within l (words c) ≡ true → None (valueTests l Coordinates c)
 test-coordinates l c e = (ap not e, tt)
 
--- the data of a key and fields, by their tags
-unpackPackage : Key → List (ℕ × List ℕ) → Package
-unpackPackage key fields = record {
-  key = key;
-  h = words (contentOf 0x02 fields);
-  x = words (contentOf 0x03 fields);
-  serial = word (contentOf 0x05 fields) 0;
-  t = contentOf 0x06 fields;
-  a = words (contentOf 0x07 fields);
-}
-
-unpackCheck : List (ℕ × List ℕ) → Check
-unpackCheck fields = record {
-  q = words (contentOf 0x11 fields);
-  masks = words (contentOf 0x12 fields);
-  delta = words (contentOf 0x13 fields);
-  alpha = words (contentOf 0x14 fields);
-}
-
--- fields within the limits fit the rows
-package-fits : (p : Package) → Valid (levelAt FIRST) p → Fits (levelAt FIRST) (packageRows (levelAt FIRST) (p .key)) (packageFields p)
-unfolding packageRows
-package-fits p v =
-    let l = levelAt FIRST in
-    let b = bounds (p .key) (v .sized) in (
-      record { tag = refl; len = refl; short = omega arith; values = none-sizes l (p .key) (v .sized) },
-      (
-        fit-words l 0x02 _ Elements (p .h) (omega (arith, b .matrix)) (v .h) (test-elements l),
-        (
-          fit-words l 0x03 _ Elements (p .x) (omega (arith, b .vector)) (v .x) (test-elements l),
-          (
-            record { tag = refl; len = refl; short = omega arith; values = tt },
-            (
-              record { tag = refl; len = v .t .0; short = omega (arith, b .bits); values = (ap not (v .t .1), tt) },
-              (fit-words l 0x07 _ Coordinates (p .a) (omega (arith, b .proof)) (v .a) (test-coordinates l), tt),
-            ),
-          ),
-        ),
-      ),
-    )
-
 -- words within the limit are written as bytes
 limit-lt : levelAt FIRST .limit < 65536
 unfolding levelAt
@@ -105,192 +69,309 @@ sizes-bytes key s zero = omega (arith, bounds key s .vector)
 sizes-bytes key s (suc zero) = omega (arith, bounds key s .vector, s .fewer)
 sizes-bytes key s (suc (suc i)) = omega arith
 
-package-bytes : (p : Package) → Valid (levelAt FIRST) p → AllBytes (packageFields p)
-package-bytes p v = (
-  omega arith,
-  sizes-bytes (p .key) (v .sized),
-  (
-    omega arith,
-    within-bytes (p .h) (v .h .1),
-    (
-      omega arith,
-      within-bytes (p .x) (v .x .1),
-      (
-        omega arith,
-        two-bytes (p .serial) (v .serial),
-        (
-          omega arith,
-          λ i. omega (arith, below-lt 1 (p .t) (v .t .1) i),
-          (omega arith, within-bytes (p .a) (v .a .1), tt),
-        ),
-      ),
-    ),
-  ),
-)
-
-check-bytes : (key : Key) (c : Check) → ValidCheck (levelAt FIRST) key c → AllBytes (checkFields c)
-check-bytes key c v = (
-  omega arith,
-  within-bytes (c .q) (v .q .1),
-  (
-    omega arith,
-    within-bytes (c .masks) (v .masks .1),
-    (
-      omega arith,
-      within-bytes (c .delta) (v .delta .1),
-      (omega arith, within-bytes (c .alpha) (v .alpha .1), tt),
-    ),
-  ),
-)
-
-all-append : (fields others : List (ℕ × List ℕ)) → AllBytes fields → AllBytes others → AllBytes (fields ++ others)
-all-append [] others b d = d
-all-append ((tag, c) ∷ fields) others b d = (b .0, b .1, all-append fields others (b .2) d)
-
--- the data of the fields written are the data
-package-packed : (p : Package) → unpackPackage (p .key) (packageFields p) ≡ p
-unfolding unpackPackage contentOf
-package-packed p = rw (words-bytes (p .h), words-bytes (p .x), words-bytes (p .a), two-word (p .serial))
-
 -- the same content, and the same fields after it
 same : (tag : ℕ) {c d : List ℕ} {fields others : List (ℕ × List ℕ)} → c ≡ d → fields ≡ others → (tag, c) ∷ fields ≡ (tag, d) ∷ others
 same tag e f = ap₂ (λ (c : List ℕ) (rest : List (ℕ × List ℕ)). (tag, c) ∷ rest) e f
 
--- the content of field 01
-sizes-content : (s : List ℕ) → length (part 3 2 s) ≡ 2 → keyOf s .n ∷ keyOf s .m ∷ [] ≡ part 3 2 s
-sizes-content s h = ap (λ (key : Key). key .n ∷ key .m ∷ []) (sym (key-part s)) ∙ pair (part 3 2 s) h
-  where
-    pair : (c : List ℕ) → length c ≡ 2 → keyAt c 0 .n ∷ keyAt c 0 .m ∷ [] ≡ c
-    pair [] h = absurd (omega arith)
-    pair (a ∷ []) h = absurd (omega arith)
-    pair (a ∷ b ∷ []) h = refl
-    pair (a ∷ b ∷ d ∷ c) h = absurd (omega arith)
+-- any bytes may follow
+abbrev Any : List ℕ → Type 0
+Any rest = Unit {0}
 
--- fields that were read are within the limits, and are those of their data
-package-valid : (s : List ℕ) → Bytes s → let rows = packageRows (levelAt FIRST) (keyOf s) in
-    Fits (levelAt FIRST) rows (cut s 0 rows) → Valid (levelAt FIRST) (unpackPackage (keyOf s) (cut s 0 rows))
-unfolding unpackPackage packageRows cut contentOf
-package-valid s b w =
-    let l = levelAt FIRST in
-    let f = w .1 in
-    let g = f .1 .1 in
-    record {
-      sized = subst (Sized l) (key-part s) (sized l (keyAt (part 3 2 s) 0) (w .0 .values));
-      h = (words-length _ _ (f .0 .len), not-false _ (f .0 .values .0));
-      x = (words-length _ _ (f .1 .0 .len), not-false _ (f .1 .0 .values .0));
-      serial = word-lt (contentOf 0x05 (cut s 0 (packageRows l (keyOf s)))) 0 (content-bytes s b 0x05 0 (packageRows l (keyOf s)));
-      t = (g .1 .0 .len, not-false _ (g .1 .0 .values .0));
-      a = (words-length _ _ (g .1 .1 .0 .len), not-false _ (g .1 .1 .0 .values .0));
-    }
+-- the key's fields
+abbrev keyRowsAt : List ℕ → ℕ → List Row
+keyRowsAt s at = keyRows (levelAt FIRST) (keyAt s (at + 3)) s at
 
-package-unpacked : (s : List ℕ) → Bytes s → let rows = packageRows (levelAt FIRST) (keyOf s) in
-    Fits (levelAt FIRST) rows (cut s 0 rows) → packageFields (unpackPackage (keyOf s) (cut s 0 rows)) ≡ cut s 0 rows
-unfolding unpackPackage packageRows cut contentOf
-package-unpacked s b w =
-    let rows = packageRows (levelAt FIRST) (keyOf s) in
-    let c : (tag : ℕ) → List ℕ = λ tag. contentOf tag (cut s 0 rows) in
-    let all : (tag : ℕ) → Bytes (c tag) = λ tag. content-bytes s b tag 0 rows in
-    let f = w .1 in
-    let g = f .1 .1 in
-    same 0x01 (sizes-content s (w .0 .len))
-    (same 0x02 (bytes-words (c 0x02) _ (all 0x02) (f .0 .len))
-    (same 0x03 (bytes-words (c 0x03) _ (all 0x03) (f .1 .0 .len))
-    (same 0x05 (word-two (c 0x05) (all 0x05) (g .0 .len))
-    (same 0x06 refl
-    (same 0x07 (bytes-words (c 0x07) _ (all 0x07) (g .1 .1 .0 .len)) refl)))))
+abbrev keyTable : KeyData → List Row
+keyTable k = keyRows (levelAt FIRST) (k .sizes) [] 0
 
-package-laws : FormLaws (levelAt FIRST) (packageForm (levelAt FIRST))
-unfolding joined contentOf
-package-laws = record {
-  unpack = unpackPackage;
-  fits = package-fits;
-  bytes = package-bytes;
-  starts = λ p. refl;
-  serial = λ p. refl;
-  packed = package-packed;
-  unpacked = λ s b w. (package-valid s b w, package-unpacked s b w);
+unpackKey : List (ℕ × List ℕ) → KeyData
+unpackKey fields = record {
+  sizes = keyAt (contentOf 0x01 fields) 0;
+  h = words (contentOf 0x02 fields);
+  x = words (contentOf 0x03 fields);
 }
 
-pub package-faithful : Faithful (packageForm (levelAt FIRST))
-package-faithful = faithful (levelAt FIRST) (packageForm (levelAt FIRST)) package-laws
+key-packed : (k : KeyData) → unpackKey (keyFields k) ≡ k
+unfolding unpackKey contentOf
+key-packed k = rw (words-bytes (k .h), words-bytes (k .x))
 
-check-fits : (key : Key) (c : Check) → Sized (levelAt FIRST) key → ValidCheck (levelAt FIRST) key c → Fits (levelAt FIRST) (checkRows (levelAt FIRST) key) (checkFields c)
-check-fits key c h v =
+key-fits : (k : KeyData) → ValidKey (levelAt FIRST) k → Fits (levelAt FIRST) (keyTable k) (keyFields k)
+key-fits k v =
     let l = levelAt FIRST in
-    let b = bounds key h in (
-      fit-words l 0x11 _ Coordinates (c .q) (omega (arith, b .elements)) (v .q) (test-coordinates l),
+    let b = bounds (k .sizes) (v .sized) in (
+      record { tag = refl; len = refl; short = omega arith; values = none-sizes l (k .sizes) (v .sized) },
       (
-        fit-words l 0x12 _ Coordinates (c .masks) (omega (arith, b .masks)) (v .masks) (test-coordinates l),
-        (
-          fit-words l 0x13 _ Coordinates (c .delta) (omega (arith, b .one)) (v .delta) (test-coordinates l),
-          (fit-words l 0x14 _ Coordinates (c .alpha) (omega (arith, b .values)) (v .alpha) (test-coordinates l), tt),
-        ),
+        fit-words l 0x02 _ Elements (k .h) (omega (arith, b .matrix)) (v .h) (test-elements l),
+        (fit-words l 0x03 _ Elements (k .x) (omega (arith, b .vector)) (v .x) (test-elements l), tt),
       ),
     )
 
--- at any position: in a check file it is the end of the package
-module _ (s : List ℕ) (b : Bytes s) (key : Key) (at : ℕ) where
-  abbrev fields : List (ℕ × List ℕ)
-  fields = cut s at (checkRows (levelAt FIRST) key)
+key-bytes : (k : KeyData) → ValidKey (levelAt FIRST) k → AllBytes (keyFields k)
+key-bytes k v = (
+  omega arith,
+  sizes-bytes (k .sizes) (v .sized),
+  (
+    omega arith,
+    within-bytes (k .h) (v .h .1),
+    (omega arith, within-bytes (k .x) (v .x .1), tt),
+  ),
+)
 
-  check-valid : Fits (levelAt FIRST) (checkRows (levelAt FIRST) key) fields → ValidCheck (levelAt FIRST) key (unpackCheck fields)
-  unfolding unpackCheck cut contentOf
-  check-valid w =
-      let f = w .1 .1 in
+key-starts : (pre rest : List ℕ) (k : KeyData) → keyAt (pre ++ (joined (keyFields k) ++ rest)) (length pre + 3) ≡ k .sizes
+unfolding joined
+key-starts pre rest k =
+    let s = joined (keyFields k) ++ rest in
+    ap₂ (λ (n m : ℕ). record { n = n; m = m }) (getD-append-add pre s 3 0) (rw add-assoc (getD-append-add pre s 4 0))
+
+-- a content of two bytes
+pair : (c : List ℕ) → length c ≡ 2 → keyAt c 0 .n ∷ keyAt c 0 .m ∷ [] ≡ c
+pair [] h = absurd (omega arith)
+pair (a ∷ []) h = absurd (omega arith)
+pair (a ∷ b ∷ []) h = refl
+pair (a ∷ b ∷ d ∷ c) h = absurd (omega arith)
+
+module _ (s : List ℕ) (b : Bytes s) (at : ℕ) where
+  abbrev keyFound : List (ℕ × List ℕ)
+  keyFound = cut s at (keyRowsAt s at)
+
+  abbrev keyData : KeyData
+  keyData = record { sizes = keyAt s (at + 3); h = words (contentOf 0x02 keyFound); x = words (contentOf 0x03 keyFound) }
+
+  key-valid : Fits (levelAt FIRST) (keyRowsAt s at) keyFound → ValidKey (levelAt FIRST) keyData
+  unfolding cut contentOf
+  key-valid w =
+      let f = w .1 in
       record {
-        q = (words-length _ _ (w .0 .len), not-false _ (w .0 .values .0));
-        masks = (words-length _ _ (w .1 .0 .len), not-false _ (w .1 .0 .values .0));
-        delta = (words-length _ _ (f .0 .len), not-false _ (f .0 .values .0));
-        alpha = (words-length _ _ (f .1 .0 .len), not-false _ (f .1 .0 .values .0));
+        sized = subst (Sized (levelAt FIRST)) (key-part s (at + 3)) (sized (levelAt FIRST) (keyAt (part (at + 3) 2 s) 0) (w .0 .values));
+        h = (words-length _ _ (f .0 .len), not-false _ (f .0 .values .0));
+        x = (words-length _ _ (f .1 .0 .len), not-false _ (f .1 .0 .values .0));
       }
 
-  check-unpacked : Fits (levelAt FIRST) (checkRows (levelAt FIRST) key) fields → checkFields (unpackCheck fields) ≡ fields
-  unfolding unpackCheck cut contentOf
-  check-unpacked w =
-      let c : (tag : ℕ) → List ℕ = λ tag. contentOf tag fields in
-      let all : (tag : ℕ) → Bytes (c tag) = λ tag. content-bytes s b tag at (checkRows (levelAt FIRST) key) in
-      let f = w .1 .1 in
-      same 0x11 (bytes-words (c 0x11) _ (all 0x11) (w .0 .len))
-      (same 0x12 (bytes-words (c 0x12) _ (all 0x12) (w .1 .0 .len))
-      (same 0x13 (bytes-words (c 0x13) _ (all 0x13) (f .0 .len))
-      (same 0x14 (bytes-words (c 0x14) _ (all 0x14) (f .1 .0 .len)) refl)))
+  key-found : Fits (levelAt FIRST) (keyRowsAt s at) keyFound → keyFields keyData ≡ keyFound
+  unfolding cut contentOf
+  key-found w =
+      let c : (tag : ℕ) → List ℕ = λ tag. contentOf tag keyFound in
+      let all : (tag : ℕ) → Bytes (c tag) = λ tag. content-bytes s b tag at (keyRowsAt s at) in
+      let f = w .1 in
+      same 0x01 (ap (λ (key : Key). key .n ∷ key .m ∷ []) (sym (key-part s (at + 3))) ∙ pair (part (at + 3) 2 s) (w .0 .len))
+      (same 0x02 (bytes-words (c 0x02) _ (all 0x02) (f .0 .len))
+      (same 0x03 (bytes-words (c 0x03) _ (all 0x03) (f .1 .0 .len)) refl))
 
--- the fields of both
-check-file-packed : (x : Package × Check) → (unpackPackage (x .0 .key) (packageFields (x .0) ++ checkFields (x .1)), unpackCheck (packageFields (x .0) ++ checkFields (x .1))) ≡ x
-unfolding unpackCheck unpackPackage contentOf
-check-file-packed x =
-    let c = x .1 in
-    ap₂ (λ (p : Package) (c : Check). (p, c)) (package-packed (x .0)) (rw (words-bytes (c .q), words-bytes (c .masks), words-bytes (c .delta), words-bytes (c .alpha)))
+key-laws : OpeningLaws (levelAt FIRST) keyFields (ValidKey (levelAt FIRST)) keyTable keyRowsAt Any (λ k. k .sizes)
+key-laws = record {
+  laws = record {
+    fits = key-fits;
+    bytes = key-bytes;
+    there = λ pre rest m k v. ap (λ key. keyRows (levelAt FIRST) key [] 0) (key-starts pre rest k);
+    read = λ s b at e. let w = cut-fits (levelAt FIRST) s b at (keyRowsAt s at) e in (keyData s b at, key-valid s b at w, key-found s b at w);
+    single = λ x y v w e. sym (key-packed x) ∙ ap unpackKey e ∙ key-packed y;
+  };
+  sized = λ k v. v .sized;
+  starts = λ pre rest k v. key-starts pre rest k;
+  told = λ s b at e. refl;
+}
 
-module _ (s : List ℕ) (b : Bytes s) where
-  abbrev rows : List Row
-  rows = checkFileRows (levelAt FIRST) (keyOf s)
+-- the fields of a group
+abbrev groupTable : Key → Group → List Row
+groupTable key g = groupRows (levelAt FIRST) key [] 0
 
-  check-file-valid : Fits (levelAt FIRST) rows (cut s 0 rows) → Valid (levelAt FIRST) (unpackPackage (keyOf s) (cut s 0 rows)) × ValidCheck (levelAt FIRST) (keyOf s) (unpackCheck (cut s 0 rows))
-  unfolding unpackPackage unpackCheck checkFileRows packageRows cut contentOf after
-  check-file-valid w =
+unpackGroup : List (ℕ × List ℕ) → Group
+unpackGroup fields = record {
+  serial = word (contentOf 0x05 fields) 0;
+  t = contentOf 0x06 fields;
+  a = words (contentOf 0x07 fields);
+}
+
+group-packed : (g : Group) → unpackGroup (groupFields g) ≡ g
+unfolding unpackGroup contentOf
+group-packed g = rw (two-word (g .serial), words-bytes (g .a))
+
+module _ (key : Key) where
+  group-fits : Sized (levelAt FIRST) key → (g : Group) → ValidGroup (levelAt FIRST) key g → Fits (levelAt FIRST) (groupTable key g) (groupFields g)
+  group-fits h g v =
       let l = levelAt FIRST in
-      let v = fits-split l s 0 (packageRows l (keyOf s)) (checkRows l (keyOf s)) w in
-      (package-valid s b (v .0), check-valid s b (keyOf s) (after 0 (packageRows l (keyOf s))) (v .1))
+      let b = bounds key h in (
+        record { tag = refl; len = refl; short = omega arith; values = tt },
+        (
+          record { tag = refl; len = v .t .0; short = omega (arith, b .bits); values = (ap not (v .t .1), tt) },
+          (fit-words l 0x07 _ Coordinates (g .a) (omega (arith, b .proof)) (v .a) (test-coordinates l), tt),
+        ),
+      )
 
-  check-file-unpacked : Fits (levelAt FIRST) rows (cut s 0 rows) → packageFields (unpackPackage (keyOf s) (cut s 0 rows)) ++ checkFields (unpackCheck (cut s 0 rows)) ≡ cut s 0 rows
-  unfolding unpackPackage unpackCheck checkFileRows packageRows cut contentOf after
-  check-file-unpacked w =
+  group-bytes : (g : Group) → ValidGroup (levelAt FIRST) key g → AllBytes (groupFields g)
+  group-bytes g v = (
+    omega arith,
+    two-bytes (g .serial) (v .serial),
+    (
+      omega arith,
+      λ i. omega (arith, below-lt 1 (g .t) (v .t .1) i),
+      (omega arith, within-bytes (g .a) (v .a .1), tt),
+    ),
+  )
+
+  module _ (s : List ℕ) (b : Bytes s) (at : ℕ) where
+    abbrev groupFound : List (ℕ × List ℕ)
+    groupFound = cut s at (groupRows (levelAt FIRST) key s at)
+
+    group-valid : Fits (levelAt FIRST) (groupRows (levelAt FIRST) key s at) groupFound → ValidGroup (levelAt FIRST) key (unpackGroup groupFound)
+    unfolding unpackGroup cut contentOf
+    group-valid w =
+        let f = w .1 in
+        record {
+          serial = word-lt (contentOf 0x05 groupFound) 0 (content-bytes s b 0x05 at (groupRows (levelAt FIRST) key s at));
+          t = (f .0 .len, not-false _ (f .0 .values .0));
+          a = (words-length _ _ (f .1 .0 .len), not-false _ (f .1 .0 .values .0));
+        }
+
+    group-found : Fits (levelAt FIRST) (groupRows (levelAt FIRST) key s at) groupFound → groupFields (unpackGroup groupFound) ≡ groupFound
+    unfolding unpackGroup cut contentOf
+    group-found w =
+        let c : (tag : ℕ) → List ℕ = λ tag. contentOf tag groupFound in
+        let all : (tag : ℕ) → Bytes (c tag) = λ tag. content-bytes s b tag at (groupRows (levelAt FIRST) key s at) in
+        let f = w .1 in
+        same 0x05 (word-two (c 0x05) (all 0x05) (w .0 .len))
+        (same 0x06 refl
+        (same 0x07 (bytes-words (c 0x07) _ (all 0x07) (f .1 .0 .len)) refl))
+
+  group-laws : Sized (levelAt FIRST) key → SegmentLaws (levelAt FIRST) groupFields (ValidGroup (levelAt FIRST) key) (groupTable key) (groupRows (levelAt FIRST) key) Any
+  group-laws h = record {
+    fits = group-fits h;
+    bytes = group-bytes;
+    there = λ pre rest m g v. refl;
+    read = λ s b at e. let w = cut-fits (levelAt FIRST) s b at (groupRows (levelAt FIRST) key s at) e in (unpackGroup (groupFound s b at), group-valid s b at w, group-found s b at w);
+    single = λ x y v w e. sym (group-packed x) ∙ ap unpackGroup e ∙ group-packed y;
+  }
+
+-- the fields that follow a package in a check file
+abbrev checkTable : Key → Check → List Row
+checkTable key c = checkRows (levelAt FIRST) key [] 0
+
+unpackCheck : List (ℕ × List ℕ) → Check
+unpackCheck fields = record {
+  q = words (contentOf 0x11 fields);
+  masks = words (contentOf 0x12 fields);
+  delta = words (contentOf 0x13 fields);
+  alpha = words (contentOf 0x14 fields);
+}
+
+check-packed : (c : Check) → unpackCheck (checkFields c) ≡ c
+unfolding unpackCheck contentOf
+check-packed c = rw (words-bytes (c .q), words-bytes (c .masks), words-bytes (c .delta), words-bytes (c .alpha))
+
+module _ (key : Key) where
+  check-fits : Sized (levelAt FIRST) key → (c : Check) → ValidCheck (levelAt FIRST) key c → Fits (levelAt FIRST) (checkTable key c) (checkFields c)
+  check-fits h c v =
       let l = levelAt FIRST in
-      let v = fits-split l s 0 (packageRows l (keyOf s)) (checkRows l (keyOf s)) w in
-      ap₂ _++_ (package-unpacked s b (v .0)) (check-unpacked s b (keyOf s) (after 0 (packageRows l (keyOf s))) (v .1))
+      let b = bounds key h in (
+        fit-words l 0x11 _ Coordinates (c .q) (omega (arith, b .elements)) (v .q) (test-coordinates l),
+        (
+          fit-words l 0x12 _ Coordinates (c .masks) (omega (arith, b .masks)) (v .masks) (test-coordinates l),
+          (
+            fit-words l 0x13 _ Coordinates (c .delta) (omega (arith, b .one)) (v .delta) (test-coordinates l),
+            (fit-words l 0x14 _ Coordinates (c .alpha) (omega (arith, b .values)) (v .alpha) (test-coordinates l), tt),
+          ),
+        ),
+      )
 
-check-file-laws : FormLaws (levelAt FIRST) (checkForm (levelAt FIRST))
-unfolding unpackPackage joined contentOf checkFileRows
+  check-bytes : (c : Check) → ValidCheck (levelAt FIRST) key c → AllBytes (checkFields c)
+  check-bytes c v = (
+    omega arith,
+    within-bytes (c .q) (v .q .1),
+    (
+      omega arith,
+      within-bytes (c .masks) (v .masks .1),
+      (
+        omega arith,
+        within-bytes (c .delta) (v .delta .1),
+        (omega arith, within-bytes (c .alpha) (v .alpha .1), tt),
+      ),
+    ),
+  )
+
+  module _ (s : List ℕ) (b : Bytes s) (at : ℕ) where
+    abbrev checkFound : List (ℕ × List ℕ)
+    checkFound = cut s at (checkRows (levelAt FIRST) key s at)
+
+    check-valid : Fits (levelAt FIRST) (checkRows (levelAt FIRST) key s at) checkFound → ValidCheck (levelAt FIRST) key (unpackCheck checkFound)
+    unfolding unpackCheck cut contentOf
+    check-valid w =
+        let f = w .1 .1 in
+        record {
+          q = (words-length _ _ (w .0 .len), not-false _ (w .0 .values .0));
+          masks = (words-length _ _ (w .1 .0 .len), not-false _ (w .1 .0 .values .0));
+          delta = (words-length _ _ (f .0 .len), not-false _ (f .0 .values .0));
+          alpha = (words-length _ _ (f .1 .0 .len), not-false _ (f .1 .0 .values .0));
+        }
+
+    check-found : Fits (levelAt FIRST) (checkRows (levelAt FIRST) key s at) checkFound → checkFields (unpackCheck checkFound) ≡ checkFound
+    unfolding unpackCheck cut contentOf
+    check-found w =
+        let c : (tag : ℕ) → List ℕ = λ tag. contentOf tag checkFound in
+        let all : (tag : ℕ) → Bytes (c tag) = λ tag. content-bytes s b tag at (checkRows (levelAt FIRST) key s at) in
+        let f = w .1 .1 in
+        same 0x11 (bytes-words (c 0x11) _ (all 0x11) (w .0 .len))
+        (same 0x12 (bytes-words (c 0x12) _ (all 0x12) (w .1 .0 .len))
+        (same 0x13 (bytes-words (c 0x13) _ (all 0x13) (f .0 .len))
+        (same 0x14 (bytes-words (c 0x14) _ (all 0x14) (f .1 .0 .len)) refl)))
+
+  check-laws : Sized (levelAt FIRST) key → SegmentLaws (levelAt FIRST) checkFields (ValidCheck (levelAt FIRST) key) (checkTable key) (checkRows (levelAt FIRST) key) Any
+  check-laws h = record {
+    fits = check-fits h;
+    bytes = check-bytes;
+    there = λ pre rest m c v. refl;
+    read = λ s b at e. let w = cut-fits (levelAt FIRST) s b at (checkRows (levelAt FIRST) key s at) e in (unpackCheck (checkFound s b at), check-valid s b at w, check-found s b at w);
+    single = λ x y v w e. sym (check-packed x) ∙ ap unpackCheck e ∙ check-packed y;
+  }
+
+-- a package: the key's fields, then a group
+abbrev packageTable : KeyData × Group → List Row
+packageTable p = keyTable (p .0) ++ groupTable (p .0 .sizes) (p .1)
+
+abbrev packageRowsAt : List ℕ → ℕ → List Row
+packageRowsAt s at = keyRowsAt s at ++ groupRows (levelAt FIRST) (keyAt s (at + 3)) s (after at (keyRowsAt s at))
+
+package-opening : let form = packageForm (levelAt FIRST) in OpeningLaws (levelAt FIRST) (form .fields) (form .Limits) packageTable packageRowsAt Any (form .key)
+package-opening =
+    followed (levelAt FIRST) keyFields (ValidKey (levelAt FIRST)) keyTable keyRowsAt Any (λ k. k .sizes)
+    groupFields (ValidGroup (levelAt FIRST)) groupTable (groupRows (levelAt FIRST)) Any key-laws group-laws (λ key g v rest m. tt) tt
+
+package-laws : FormLaws (levelAt FIRST) (packageForm (levelAt FIRST)) packageTable packageRowsAt Any
+unfolding packageRows contentOf
+package-laws = record {
+  opening = package-opening;
+  serial = λ p. refl;
+  last = tt;
+  told = λ s. refl;
+  whole = package-whole (levelAt FIRST);
+  passes = λ p v w. package-passes (levelAt FIRST) _ w;
+}
+
+pub package-faithful : Faithful (packageForm (levelAt FIRST))
+package-faithful = faithful (levelAt FIRST) (packageForm (levelAt FIRST)) packageTable packageRowsAt Any package-laws
+
+-- a check file: a package, then the check
+abbrev checkFileTable : (KeyData × Group) × Check → List Row
+checkFileTable x = packageTable (x .0) ++ checkTable (x .0 .0 .sizes) (x .1)
+
+abbrev checkFileRowsAt : List ℕ → ℕ → List Row
+checkFileRowsAt s at = packageRowsAt s at ++ checkRows (levelAt FIRST) (keyAt s (at + 3)) s (after at (packageRowsAt s at))
+
+check-file-opening : let form = checkForm (levelAt FIRST) in OpeningLaws (levelAt FIRST) (form .fields) (form .Limits) checkFileTable checkFileRowsAt Any (form .key)
+check-file-opening =
+    let form = packageForm (levelAt FIRST) in
+    followed (levelAt FIRST) (form .fields) (form .Limits) packageTable packageRowsAt Any (form .key)
+    checkFields (ValidCheck (levelAt FIRST)) checkTable (checkRows (levelAt FIRST)) Any package-opening check-laws (λ key c v rest m. tt) tt
+
+check-file-laws : FormLaws (levelAt FIRST) (checkForm (levelAt FIRST)) checkFileTable checkFileRowsAt Any
+unfolding packageRows checkFileRows contentOf
 check-file-laws = record {
-  unpack = λ key fields. (unpackPackage key fields, unpackCheck fields);
-  fits = λ x v. fits-append (levelAt FIRST) (packageRows (levelAt FIRST) (x .0 .key)) (checkRows (levelAt FIRST) (x .0 .key)) (packageFields (x .0)) (checkFields (x .1)) (package-fits (x .0) (v .0)) (check-fits (x .0 .key) (x .1) (v .0 .sized) (v .1));
-  bytes = λ x v. all-append (packageFields (x .0)) (checkFields (x .1)) (package-bytes (x .0) (v .0)) (check-bytes (x .0 .key) (x .1) (v .1));
-  starts = λ x. refl;
+  opening = check-file-opening;
   serial = λ x. refl;
-  packed = check-file-packed;
-  unpacked = λ s b w. (check-file-valid s b w, check-file-unpacked s b w);
+  last = tt;
+  told = λ s. ap (λ at. packageRows (levelAt FIRST) s ++ checkRows (levelAt FIRST) (keyOf s) s at) (sym (package-end (levelAt FIRST) s));
+  whole = check-file-whole (levelAt FIRST);
+  passes = λ x v w. check-file-passes (levelAt FIRST) _ w;
 }
 
 pub check-file-faithful : Faithful (checkForm (levelAt FIRST))
-check-file-faithful = faithful (levelAt FIRST) (checkForm (levelAt FIRST)) check-file-laws
+check-file-faithful = faithful (levelAt FIRST) (checkForm (levelAt FIRST)) checkFileTable checkFileRowsAt Any check-file-laws

@@ -12,14 +12,14 @@ use lib.ListN.{length, getD, take, drop, length-append, take-append-drop}
 use lib.Seq.{getD-append-seam, getD-append-add, drop-append-add, drop-cons, drop-drop, take-at}
 use Rattle.lists.specs.Words.{part}
 use Rattle.lists.proofs.Words.{part-length}
+use Rattle.copying.specs.Words.{Bytes, word, twoBytes}
+use Rattle.copying.proofs.Bytes.{word-lt, bytes-part, bytes-cons, bytes-append, two-bytes}
 use Rattle.refusal.proofs.Answers.{None}
 use Rattle.field.specs.declared.Level.{Level}
 use Rattle.layout.specs.declared.Row.{Row}
-use Rattle.layout.specs.Tests.{word, valueTests, rowTests, tests, after, partOf}
-use Rattle.layout.proofs.Rows.{Passed, passed}
-use Rattle.package.specs.Written.{Bytes, twoBytes, joined, contentOf}
-use Rattle.package.proofs.Accepted.{none-append, none-join}
-use Rattle.package.proofs.Bytes.{word-lt, bytes-part, bytes-cons, bytes-append, two-bytes}
+use Rattle.layout.specs.Tests.{valueTests, rowTests, tests, after, partOf}
+use Rattle.layout.proofs.Rows.{Passed, passed, none-append, none-join}
+use Rattle.package.specs.Written.{joined, contentOf}
 
 -- a content that a row takes
 pub record Fit (l : Level) (row : Row) (g : ℕ) (c : List ℕ) : Type 0 where
@@ -46,10 +46,29 @@ fits-append l [] others (f ∷ fields) more v w = absurd v
 fits-append l (row ∷ rows) others [] more v w = absurd v
 fits-append l (row ∷ rows) others ((tag, c) ∷ fields) more v w = (v .0, fits-append l rows others fields more (v .1) w)
 
-pub fits-split : (l : Level) (s : List ℕ) (at : ℕ) (rows others : List Row) → Fits l (rows ++ others) (cut s at (rows ++ others)) → Fits l rows (cut s at rows) × Fits l others (cut s (after at rows) others)
+pub fits-length : (l : Level) (rows : List Row) (fields : List (ℕ × List ℕ)) → Fits l rows fields → length fields ≡ length rows
+fits-length l [] [] w = refl
+fits-length l [] (f ∷ fields) w = absurd w
+fits-length l (row ∷ rows) [] w = absurd w
+fits-length l (row ∷ rows) ((tag, c) ∷ fields) w = ap suc (fits-length l rows fields (w .1))
+
+pub cut-append : (s : List ℕ) (at : ℕ) (rows others : List Row) → cut s at (rows ++ others) ≡ cut s at rows ++ cut s (after at rows) others
 unfolding cut after
-fits-split l s at [] others w = (tt, w)
-fits-split l s at (row ∷ rows) others w = let r = fits-split l s (at + 3 + row .len) rows others (w .1) in ((w .0, r .0), r .1)
+cut-append s at [] others = refl
+cut-append s at (row ∷ rows) others = ap (λ fields. (row .tag, part (at + 3) (row .len) s) ∷ fields) (cut-append s (at + 3 + row .len) rows others)
+
+pub joined-append : (fields more : List (ℕ × List ℕ)) → joined (fields ++ more) ≡ joined fields ++ joined more
+unfolding joined
+joined-append [] more = refl
+joined-append ((tag, c) ∷ fields) more = ap (λ t. (tag ∷ twoBytes (length c)) ++ c ++ t) (joined-append fields more) ∙ sym (append-assoc ((tag ∷ twoBytes (length c)) ++ c) (joined fields) (joined more))
+
+pub after-joined : (l : Level) (at : ℕ) (rows : List Row) (fields : List (ℕ × List ℕ)) → Fits l rows fields → after at rows ≡ at + length (joined fields)
+unfolding after joined
+after-joined l at [] [] w = omega arith
+after-joined l at [] (f ∷ fields) w = absurd w
+after-joined l at (row ∷ rows) [] w = absurd w
+after-joined l at (row ∷ rows) ((tag, c) ∷ fields) w =
+    omega (arith, after-joined l (at + 3 + row .len) rows fields (w .1), w .0 .len, length-append ((tag ∷ twoBytes (length c)) ++ c) (joined fields), length-append (tag ∷ twoBytes (length c)) c)
 
 -- the part of a tag is the content of the field with it
 pub part-cut : (s : List ℕ) (tag at : ℕ) (rows : List Row) → part (partOf tag at rows .start) (partOf tag at rows .len) s ≡ contentOf tag (cut s at rows)
@@ -64,6 +83,18 @@ part-cut s tag at (row ∷ rows) = pick (eqb (row .tag) tag) (part-cut s tag (at
 
 pub content-bytes : (s : List ℕ) → Bytes s → (tag at : ℕ) (rows : List Row) → Bytes (contentOf tag (cut s at rows))
 content-bytes s b tag at rows = subst Bytes (part-cut s tag at rows) (bytes-part s (partOf tag at rows .start) (partOf tag at rows .len) b)
+
+-- the tag and the stated length of the field that stands where other bytes end
+module _ (pre : List ℕ) (tag : ℕ) (c rest : List ℕ) where
+  pub next-tag : getD (pre ++ ((tag ∷ twoBytes (length c)) ++ c ++ rest)) (length pre) 0 ≡ tag
+  next-tag = getD-append-seam pre tag (twoBytes (length c) ++ c ++ rest) 0
+
+  pub next-len : length c < 65536 → word (pre ++ ((tag ∷ twoBytes (length c)) ++ c ++ rest)) (length pre + 1) ≡ length c
+  next-len h =
+      let s = pre ++ ((tag ∷ twoBytes (length c)) ++ c ++ rest) in
+      let high : getD s (length pre + 1) 0 ≡ length c / 256 = getD-append-add pre ((tag ∷ twoBytes (length c)) ++ c ++ rest) 1 0 in
+      let low : getD s (length pre + 1 + 1) 0 ≡ length c % 256 = rw add-assoc (getD-append-add pre ((tag ∷ twoBytes (length c)) ++ c ++ rest) 2 0) in
+      omega arith
 
 -- a field written after other bytes
 module _ (l : Level) (pre : List ℕ) (row : Row) (tag : ℕ) (c rest : List ℕ) (w : Fit l row tag c) where
@@ -87,17 +118,19 @@ module _ (l : Level) (pre : List ℕ) (row : Row) (tag : ℕ) (c rest : List ℕ
   row-there =
       let size = length-append pre ((tag ∷ twoBytes (length c)) ++ c ++ rest) in
       let body = length-append c rest in
-      let high : getD whole (length pre + 1) 0 ≡ length c / 256 = getD-append-add pre ((tag ∷ twoBytes (length c)) ++ c ++ rest) 1 0 in
-      let low : getD whole (length pre + 1 + 1) 0 ≡ length c % 256 = rw add-assoc (getD-append-add pre ((tag ∷ twoBytes (length c)) ++ c ++ rest) 2 0) in
       let len = w .len in
       let short = w .short in
-      let word-len : word whole (length pre + 1) ≡ row .len = omega arith in
-      (le-ltb (length whole - length pre) 3 (omega arith), (ap not (eq-eqb _ _ (getD-append-seam pre tag (twoBytes (length c) ++ c ++ rest) 0 ∙ w .tag)), (ap not (eq-eqb _ _ word-len), (le-ltb (length whole - (length pre + 3)) (row .len) (omega arith), subst (λ b. None (valueTests l (row .kind) b)) (sym content-there) (w .values)))))
+      let word-len : word whole (length pre + 1) ≡ row .len = next-len pre tag c rest (omega arith) ∙ len in
+      (le-ltb (length whole - length pre) 3 (omega arith), (ap not (eq-eqb _ _ (next-tag pre tag c rest ∙ w .tag)), (ap not (eq-eqb _ _ word-len), (le-ltb (length whole - (length pre + 3)) (row .len) (omega arith), subst (λ b. None (valueTests l (row .kind) b)) (sym content-there) (w .values)))))
 
 -- tags and contents of bytes
 abbrev pub AllBytes : List (ℕ × List ℕ) → Type 0
 AllBytes [] = Unit {0}
 AllBytes ((tag, c) ∷ fields) = (tag < 256) × Bytes c × AllBytes fields
+
+pub all-append : (fields others : List (ℕ × List ℕ)) → AllBytes fields → AllBytes others → AllBytes (fields ++ others)
+all-append [] others b d = d
+all-append ((tag, c) ∷ fields) others b d = (b .0, b .1, all-append fields others (b .2) d)
 
 pub joined-bytes : (l : Level) (rows : List Row) (fields : List (ℕ × List ℕ)) → Fits l rows fields → AllBytes fields → Bytes (joined fields)
 unfolding joined

@@ -1,6 +1,6 @@
 pub mod Accepted
-pub mod Bytes
 pub mod Joined
+pub mod Segments
 pub mod Faithful
 pub mod Forms
 pub mod Examples

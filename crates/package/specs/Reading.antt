@@ -1,17 +1,19 @@
 -- What the readers answer for any bytes, and the part that is handed back for a tag.
+use mathlib.Core.Bool.{Bool}
 use mathlib.Core.List.{List}
 use mathlib.Core.Path.{_≡_}
 use Prim.Native.Nat.{ℕ, _+_}
 use denote.Ref.{RefT, ptr, now}
 use Rattle.lists.specs.Words.{part}
+use Rattle.copying.specs.Words.{word}
 use Rattle.refusal.specs.Answer.{firstOf}
 use Rattle.refusal.specs.declared.Answer.{Answer}
 use Rattle.refusal.specs.declared.Answer.the-variants as answer
 use Rattle.field.specs.declared.Level.{Level}
-use Rattle.key.specs.declared.Key.{Key}
 use Rattle.layout.specs.declared.Row.{Row}
 use Rattle.layout.specs.declared.Part.{Part}
-use Rattle.layout.specs.Tests.{word, keyOf, fileTests, empty, partOf}
+use Rattle.layout.specs.Layout.{packageRows, packageTests, checkFileRows, checkFileTests}
+use Rattle.layout.specs.Tests.{keyOf, empty, partOf}
 use Rattle.package.specs.declared.Contents.{Contents}
 use Rattle.package.specs.declared.Read.{Read}
 use Rattle.package.specs.declared.Read.the-variants as read
@@ -30,18 +32,29 @@ abbrev pub partIf : Answer → Part → Part
 partIf answer.Done p = p
 partIf (answer.Refused r) p = empty
 
-module _ (l : Level) (rows : Key → List Row) (s : List ℕ) where
+-- how a form of file is read: the rows of its fields and its tests, both told by the bytes
+pub record Reader : Type 0 where
+  pub rows : List ℕ → List Row
+  pub tests : List ℕ → List (Bool × ℕ)
+
+abbrev pub packageReader : Level → Reader
+packageReader l = record { rows = packageRows l; tests = packageTests l }
+
+abbrev pub checkFileReader : Level → Reader
+checkFileReader l = record { rows = checkFileRows l; tests = checkFileTests l }
+
+-- n, m and the serial of bytes with these fields
+abbrev pub contentsOf : List ℕ → List Row → Contents
+contentsOf s rows = record { n = keyOf s .n; m = keyOf s .m; serial = word s (partOf 0x05 0 rows .start) }
+
+module _ (reader : Reader) (s : List ℕ) where
   -- "read package and read check file (answer n, m and the serial, or a refusal)"
   abbrev pub reading : Read
-  reading = readAs (firstOf (fileTests l (rows (keyOf s)) s)) (record {
-    n = keyOf s .n;
-    m = keyOf s .m;
-    serial = word s (partOf 0x05 0 (rows (keyOf s)) .start);
-  })
+  reading = readAs (firstOf (reader .tests s)) (contentsOf s (reader .rows s))
 
   -- "for a refused package or an absent tag it hands back an empty part"
   abbrev pub fieldPart : ℕ → Part
-  fieldPart tag = partIf (firstOf (fileTests l (rows (keyOf s)) s)) (partOf tag 0 (rows (keyOf s)))
+  fieldPart tag = partIf (firstOf (reader .tests s)) (partOf tag 0 (reader .rows s))
 
 -- "the caller's own bytes": a reference to that part of the bytes lent, by content, block and offset
 pub record IsPart (r s : RefT (List ℕ)) (p : Part) : Type 0 where

@@ -1,17 +1,19 @@
 // Packages and check files of the specification: the readers, and the field of a package.
 ghost use mathlib.Core.Path.{_≡_};
-ghost use Prim.Native.Nat.{_≤_, _<_};
-ghost use lib.ListN.{take};
+ghost use mathlib.Core.List.{List, _++_};
+ghost use Prim.Native.Nat.{_+_, _≤_};
+ghost use lib.ListN.{length};
 ghost use Rattle.refusal.specs.Answer.{firstOf};
 ghost use Rattle.refusal.specs.declared.Answer.the-variants.{Done};
+ghost use Rattle.field.specs.declared.Level.{Level};
 ghost use Rattle.field.specs.Level.{FIRST, levelAt};
-ghost use Rattle.layout.specs.Layout.{packageRows, checkFileRows};
-ghost use Rattle.layout.specs.Tests.{keyOf, fileTests};
-ghost use Rattle.package.specs.Reading.{numberOf, reading, fieldPart, IsPart};
-use layout::CHECK_FILE_ROWS;
-use layout::PACKAGE_ROWS;
+ghost use Rattle.layout.specs.declared.Row.{Row};
+ghost use Rattle.layout.specs.Layout.{keyTests, groupTests, groupEnd, packageTests, checkFileTests};
+ghost use Rattle.layout.specs.Tests.{Whole, stepped, partOf};
+ghost use Rattle.package.specs.Reading.{numberOf, readAs, partIf, contentsOf, packageReader, checkFileReader, reading, fieldPart, IsPart};
 use layout::Part;
 use layout::Row;
+use layout::Step;
 use refusal::Answer;
 use refusal::Refusal;
 
@@ -38,84 +40,111 @@ pub fn number(answer: Read) -> u32
     }
 }
 
-// n, m and the serial of a file of so many fields, or the refusal.
-fn read_fields(bytes: &[u8], count: usize) -> Read
-    requires { ⌜ (3 < count) × (count ≤ 10) ⌝ }
-    ensures { λ r. ⌜ r ≡ reading (levelAt FIRST) (λ key. take count (checkFileRows (levelAt FIRST) key)) (now (bytes .entry)) ⌝ }
+// The fields of a package, from the start: where they end, or the refusal.
+fn read_fields(bytes: &[u8]) -> Step
+    ensures { λ r. ⌜ r ≡ stepped (firstOf (keyTests (levelAt FIRST) (now (bytes .entry)) ++ groupTests (levelAt FIRST) (now (bytes .entry)))) (groupEnd (levelAt FIRST) (now (bytes .entry))) ⌝ }
 {
-    let answer = layout::read_file(bytes, count);
+    let step = layout::read_key(bytes);
+    match step {
+        Step::Refused(refusal) => Step::Refused(refusal),
+        Step::Next(at) => layout::read_group(bytes, layout::key_at(bytes, layout::HEAD), at),
+    }
+}
+
+// The first refusal of a package that applies.
+fn check_package(bytes: &[u8]) -> Answer
+    ensures { λ r. ⌜ r ≡ firstOf (packageTests (levelAt FIRST) (now (bytes .entry))) ⌝ }
+{
+    let step = read_fields(bytes);
+    match step {
+        Step::Refused(refusal) => Answer::Refused(refusal),
+        Step::Next(end) => layout::read_end(bytes, end),
+    }
+}
+
+// The first refusal of a check file that applies.
+fn check_file(bytes: &[u8]) -> Answer
+    ensures { λ r. ⌜ r ≡ firstOf (checkFileTests (levelAt FIRST) (now (bytes .entry))) ⌝ }
+{
+    let package = read_fields(bytes);
+    match package {
+        Step::Refused(refusal) => Answer::Refused(refusal),
+        Step::Next(at) => {
+            let check = layout::read_check(bytes, layout::key_at(bytes, layout::HEAD), at);
+            match check {
+                Step::Refused(refusal) => Answer::Refused(refusal),
+                Step::Next(end) => layout::read_end(bytes, end),
+            }
+        }
+    }
+}
+
+// n, m and the serial of bytes for which a reader has this answer, or its refusal.
+fn read_as(bytes: &[u8], answer: Answer) -> Read
+    ensures { λ r. ⌜ ((l : Level) (rows : List Row) → (answer ≡ Done → Whole l (now (bytes .entry)) rows) → r ≡ readAs answer (contentsOf (now (bytes .entry)) rows)) ⌝ }
+{
     match answer {
         Answer::Refused(refusal) => Read::Refused(refusal),
         Answer::Done => {
             let key = layout::key_at(bytes, layout::HEAD);
-            let start = layout::part_of(key, count, Row::SERIAL).start;
+            let start = layout::find(bytes, Row::SERIAL).start;
+            let high = copying::byte_at(bytes, start);
+            let low = copying::byte_at(bytes, start + 1);
             Read::Fields(Contents {
                 n: key.n,
                 m: key.m,
-                serial: layout::word_at(bytes, start) as u32,
+                serial: (high * 256 + low) as u32,
             })
         }
     }
 }
 
-// Where the content of the field with a tag stands in a file of so many fields, or the empty part.
-fn located(bytes: &[u8], count: usize, tag: u8) -> Part
-    requires { ⌜ (0 < count) × (count ≤ 10) ⌝ }
-    ensures { λ r. ⌜ r ≡ fieldPart (levelAt FIRST) (λ key. take count (checkFileRows (levelAt FIRST) key)) (now (bytes .entry)) tag ⌝ }
+// Where the content of the field with a tag stands in bytes for which a reader has this answer, or the empty part.
+fn located(bytes: &[u8], answer: Answer, tag: u8) -> Part
+    ensures { λ r. ⌜ ((l : Level) (rows : List Row) → (answer ≡ Done → Whole l (now (bytes .entry)) rows) → r ≡ partIf answer (partOf tag 0 rows)) × (r .start + r .len ≤ length (now (bytes .entry))) ⌝ }
 {
-    let answer = layout::read_file(bytes, count);
-    if let Answer::Refused(_) = answer {
-        return Part { start: 0, len: 0 };
+    match answer {
+        Answer::Refused(_) => Part { start: 0, len: 0 },
+        Answer::Done => layout::find(bytes, tag),
     }
-    layout::part_of(layout::key_at(bytes, layout::HEAD), count, tag)
 }
 
-// The bytes of that part.
-fn content(bytes: &[u8], count: usize, tag: u8) -> &[u8]
-    requires { ⌜ (0 < count) × (count ≤ 10) ⌝ }
-    ensures { λ r. ⌜ IsPart r (bytes .entry) (fieldPart (levelAt FIRST) (λ key. take count (checkFileRows (levelAt FIRST) key)) (now (bytes .entry)) tag) ⌝ }
+// n, m and the serial of a package, or the refusal.
+pub fn read_package(bytes: &[u8]) -> Read
+    ensures { λ r. ⌜ r ≡ reading (packageReader (levelAt FIRST)) (now (bytes .entry)) ⌝ }
 {
-    let p = located(bytes, count, tag);
+    read_as(bytes, check_package(bytes))
+}
+
+// n, m and the serial of a check file, or the refusal.
+pub fn read_check_file(bytes: &[u8]) -> Read
+    ensures { λ r. ⌜ r ≡ reading (checkFileReader (levelAt FIRST)) (now (bytes .entry)) ⌝ }
+{
+    read_as(bytes, check_file(bytes))
+}
+
+// Where the content stands that field hands back.
+pub fn field_part(bytes: &[u8], tag: u8) -> Part
+    ensures { λ r. ⌜ r ≡ fieldPart (packageReader (levelAt FIRST)) (now (bytes .entry)) tag ⌝ }
+{
+    located(bytes, check_package(bytes), tag)
+}
+
+// The caller's own bytes of a field's content, or the empty part for a refused package or an absent tag.
+pub fn field(bytes: &[u8], tag: u8) -> &[u8]
+    ensures { λ r. ⌜ IsPart r (bytes .entry) (fieldPart (packageReader (levelAt FIRST)) (now (bytes .entry)) tag) ⌝ }
+{
+    let p = located(bytes, check_package(bytes), tag);
     let start = p.start;
     let end = start + p.len;
     &bytes[start..end]
 }
 
-// n, m and the serial of a package, or the refusal.
-pub fn read_package(bytes: &[u8]) -> Read
-    ensures { λ r. ⌜ r ≡ reading (levelAt FIRST) (packageRows (levelAt FIRST)) (now (bytes .entry)) ⌝ }
+// The caller's own bytes of the content of the field with a tag, in bytes that a reader accepts; nothing is tested again.
+pub fn content(bytes: &[u8], tag: u8) -> &[u8]
+    ensures { λ r. ⌜ ((l : Level) (rows : List Row) → Whole l (now (bytes .entry)) rows → IsPart r (bytes .entry) (partOf tag 0 rows)) ⌝ }
 {
-    read_fields(bytes, PACKAGE_ROWS)
-}
-
-// n, m and the serial of a check file, or the refusal.
-pub fn read_check_file(bytes: &[u8]) -> Read
-    ensures { λ r. ⌜ r ≡ reading (levelAt FIRST) (checkFileRows (levelAt FIRST)) (now (bytes .entry)) ⌝ }
-{
-    read_fields(bytes, CHECK_FILE_ROWS)
-}
-
-// The caller's own bytes of a field's content, or the empty part for a refused package or an absent tag.
-pub fn field(bytes: &[u8], tag: u8) -> &[u8]
-    ensures { λ r. ⌜ IsPart r (bytes .entry) (fieldPart (levelAt FIRST) (packageRows (levelAt FIRST)) (now (bytes .entry)) tag) ⌝ }
-{
-    content(bytes, PACKAGE_ROWS, tag)
-}
-
-// Where the content stands that field hands back.
-pub fn field_part(bytes: &[u8], tag: u8) -> Part
-    ensures { λ r. ⌜ r ≡ fieldPart (levelAt FIRST) (packageRows (levelAt FIRST)) (now (bytes .entry)) tag ⌝ }
-{
-    located(bytes, PACKAGE_ROWS, tag)
-}
-
-// The caller's own bytes of the content of a field of a check file that the reader accepts, or the empty part for an absent tag. Nothing
-// is read again but the sizes.
-pub fn check_field(bytes: &[u8], tag: u8) -> &[u8]
-    requires { ⌜ firstOf (fileTests (levelAt FIRST) (checkFileRows (levelAt FIRST) (keyOf (now bytes))) (now bytes)) ≡ Done ⌝ }
-    ensures { λ r. ⌜ IsPart r (bytes .entry) (fieldPart (levelAt FIRST) (checkFileRows (levelAt FIRST)) (now (bytes .entry)) tag) ⌝ }
-{
-    let p = layout::part_of(layout::key_at(bytes, layout::HEAD), CHECK_FILE_ROWS, tag);
+    let p = layout::find(bytes, tag);
     let start = p.start;
     let end = start + p.len;
     &bytes[start..end]

@@ -10,8 +10,7 @@ ghost use Rattle.constraints.specs.Truth.{Truth};
 ghost use Rattle.prover.specs.Entry.{proveOutcome};
 ghost use Rattle.prover.specs.Solved.{Solved};
 ghost use Rattle.verifier.specs.Entry.{verifyOutcome, Judges};
-ghost use Rattle.layout.specs.Layout.{packageRows, checkFileRows};
-ghost use Rattle.package.specs.Reading.{reading, fieldPart};
+ghost use Rattle.package.specs.Reading.{packageReader, checkFileReader, reading, fieldPart};
 ghost use Rattle.checkfile.specs.Checking.{checkNumber, checking};
 ghost use Rattle.perk.specs.Files.{SmallSizes, readPut, spanOf};
 use key::Key;
@@ -134,7 +133,7 @@ fn put_read(answer: Read, n: &mut u32, m: &mut u32, serial: &mut u32) -> u32
 // n, m and the serial of a package.
 #[no_mangle]
 pub extern "C" fn perk_read_package(bytes: &[u8], n: &mut u32, m: &mut u32, serial: &mut u32) -> u32
-    ensures { λ r. ⌜ (r, (now (n .exit), now (m .exit), now (serial .exit))) ≡ readPut (reading (levelAt FIRST) (packageRows (levelAt FIRST)) (now (bytes .entry))) (now (n .entry), now (m .entry), now (serial .entry)) ⌝ }
+    ensures { λ r. ⌜ (r, (now (n .exit), now (m .exit), now (serial .exit))) ≡ readPut (reading (packageReader (levelAt FIRST)) (now (bytes .entry))) (now (n .entry), now (m .entry), now (serial .entry)) ⌝ }
 {
     put_read(package::read_package(bytes), n, m, serial)
 }
@@ -147,7 +146,7 @@ pub extern "C" fn perk_read_check_file(
     m: &mut u32,
     serial: &mut u32,
 ) -> u32
-    ensures { λ r. ⌜ (r, (now (n .exit), now (m .exit), now (serial .exit))) ≡ readPut (reading (levelAt FIRST) (checkFileRows (levelAt FIRST)) (now (bytes .entry))) (now (n .entry), now (m .entry), now (serial .entry)) ⌝ }
+    ensures { λ r. ⌜ (r, (now (n .exit), now (m .exit), now (serial .exit))) ≡ readPut (reading (checkFileReader (levelAt FIRST)) (now (bytes .entry))) (now (n .entry), now (m .entry), now (serial .entry)) ⌝ }
 {
     put_read(package::read_check_file(bytes), n, m, serial)
 }
@@ -155,7 +154,7 @@ pub extern "C" fn perk_read_check_file(
 // The length of a field's content in a package, and where it starts.
 #[no_mangle]
 pub extern "C" fn perk_field(bytes: &[u8], tag: u8, start: &mut usize) -> usize
-    ensures { λ r. ⌜ (r, now (start .exit)) ≡ spanOf (fieldPart (levelAt FIRST) (packageRows (levelAt FIRST)) (now (bytes .entry)) tag) ⌝ }
+    ensures { λ r. ⌜ (r, now (start .exit)) ≡ spanOf (fieldPart (packageReader (levelAt FIRST)) (now (bytes .entry)) tag) ⌝ }
 {
     let part = package::field_part(bytes, tag);
     *start = part.start;

@@ -1,7 +1,8 @@
 use Rattle.field.specs.Level.{FIRST, levelAt}
-use Rattle.layout.specs.Layout.{checkFileRows}
+use Rattle.package.specs.Reading.{checkFileReader}
+use Rattle.package.proofs.Accepted.{read-accepts}
 use mathlib.Core.Path.{refl, sym, _∙_}
-use Rattle.checkfile.proofs.Joined.{read-accepts, told}
+use Rattle.checkfile.proofs.Joined.{told}
 use borrow.Author.Needs.{needs}
 use Rattle.checkfile.proofs.check.Statement.{statement}
 use Rattle.checkfile.proofs.check.Tie as tie
@@ -16,7 +17,7 @@ enum-known-contents : tie.Need-enum-known-contents
 enum-known-contents c = search needs
 
 judge-requires : tie.Need-judge-requires
-judge-requires c κs = read-accepts (checkFileRows (levelAt FIRST)) (c .before .before .before .before .before .args .bytes .now) (sym (c .before .before .before .read-check-file .ensures) ∙ c .before .contents .given .1)
+judge-requires c κs = read-accepts (checkFileReader (levelAt FIRST)) (c .before .before .before .before .before .args .bytes .now) (sym (c .before .before .before .read-check-file .ensures) ∙ c .before .contents .given .1)
 
 enum-told : tie.Need-enum-told
 enum-told c = search needs

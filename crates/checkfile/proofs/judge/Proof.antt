@@ -1,26 +1,30 @@
 use native.Mathlib.Omega.{arith}
 use Rattle.checkfile.proofs.Rooms.{matrix, vector, proof}
+use Rattle.copying.specs.Words.{Bytes}
 use borrow.Author.Needs.{needs}
 use Rattle.checkfile.proofs.judge.Statement.{statement}
 use Rattle.checkfile.proofs.judge.Tie as tie
+
+bytes-known : (c : tie.After-shared-slice-known) → Bytes (c .before .args .bytes .now)
+bytes-known c = λ i. omega (arith, c .shared-slice-known .given i)
 
 slice-aggregate-load : tie.Need-slice-aggregate-load
 slice-aggregate-load c = search needs
 
 load-requires : tie.Need-load-requires
-load-requires c κs = (c .before .before .pre .0, omega (arith, matrix (c .before .before .args .bytes .now) (c .before .before .pre .0)))
+load-requires c κs = (c .before .before .pre .0, omega (arith, matrix (c .before .before .args .bytes .now) (bytes-known (c .before)) (c .before .before .pre .0)))
 
 slice-aggregate-load-2 : tie.Need-slice-aggregate-load-2
 slice-aggregate-load-2 c = search needs
 
 load-requires-2 : tie.Need-load-requires-2
-load-requires-2 c κs = (c .before .before .before .before .before .pre .0, omega (arith, vector (c .before .before .before .before .before .args .bytes .now) (c .before .before .before .before .before .pre .0)))
+load-requires-2 c κs = (c .before .before .before .before .before .pre .0, omega (arith, vector (c .before .before .before .before .before .args .bytes .now) (bytes-known (c .before .before .before .before)) (c .before .before .before .before .before .pre .0)))
 
 slice-aggregate-load-3 : tie.Need-slice-aggregate-load-3
 slice-aggregate-load-3 c = search needs
 
 load-requires-3 : tie.Need-load-requires-3
-load-requires-3 c κs = (c .before .before .before .before .before .before .before .before .pre .0, omega (arith, proof (c .before .before .before .before .before .before .before .before .args .bytes .now) (c .before .before .before .before .before .before .before .before .pre .0)))
+load-requires-3 c κs = (c .before .before .before .before .before .before .before .before .pre .0, omega (arith, proof (c .before .before .before .before .before .before .before .before .args .bytes .now) (bytes-known (c .before .before .before .before .before .before .before)) (c .before .before .before .before .before .before .before .before .pre .0)))
 
 array-share-prefix-h : tie.Need-array-share-prefix-h
 array-share-prefix-h c = search needs

@@ -32,7 +32,7 @@ mul-out : tie.Need-mul-out Inv-loop μ-loop
 mul-out c = omega arith
 
 slice-write-out : tie.Need-slice-write-out Inv-loop μ-loop
-slice-write-out c = omega arith
+slice-write-out c = omega (arith, words-half (c .before .before .before .before .before .args .c .now))
 
 add-i : tie.Need-add-i Inv-loop μ-loop
 add-i c = omega arith

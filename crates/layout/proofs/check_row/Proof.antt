@@ -1,77 +1,104 @@
-use Prim.Native.Nat.{ℕ, _-_, _*_}
-use mathlib.Core.Path.{_≡_, refl}
-use native.Mathlib.Omega.{arith}
+use Prim.Native.Nat.{_+_, _-_, _≤_, _<_}
+use mathlib.Core.Path.{sym, ap, subst, _∙_}
+use lib.ListN.{length}
 use borrow.Author.Needs.{needs}
-use lib.ListN.{getD}
+use native.Mathlib.Nat.{add-sub-cancel-left}
+use borrow.Author.Tests.{lt-ltb, le-ltb, eq-eqb, ne-eqb}
+use Rattle.lists.specs.Words.{part}
+use Rattle.refusal.specs.Answer.{firstOf}
 use Rattle.field.specs.Level.{FIRST, levelAt}
-use Rattle.key.specs.declared.Lengths.{Lengths}
-use Rattle.key.specs.Key.{degree, lengths}
-use Rattle.layout.specs.declared.Row.{Row}
-use Rattle.layout.specs.declared.Kind.the-variants.{Coordinates}
-use Rattle.layout.specs.Layout.{checkRows}
-use Rattle.layout.specs.Tests.{noRow}
-use Rattle.layout.proofs.Bounds.{Bounds, bounds, row-at}
+use Rattle.layout.specs.Tests.{valueTests, rowTests}
+use Rattle.layout.proofs.Rows.{row-whole}
 use Rattle.layout.proofs.check_row.Statement.{statement}
 use Rattle.layout.proofs.check_row.Tie as tie
 
-bound : (c : tie.After-degree) → Bounds (c .before .lengths .result) (c .degree .result)
-bound c = rw (c .before .lengths .ensures, c .degree .ensures) (bounds (c .before .before .args .key) (c .before .before .pre .1))
+-- there is room for tag and length
+room : (c : tie.After-left) → 3 ≤ c .left .result → let a = c .before .before .args in 3 ≤ length (a .s .now) - a .at
+room c h = subst (λ k. 3 ≤ k) (c .left .ensures) h
 
--- the row of the code's numbers is row k
-is-row : (c : tie.After-degree) (k : ℕ) (row : Lengths → ℕ → Row) →
-    let a = c .before .before .args in
-    row (lengths (levelAt FIRST) (a .key)) (degree (a .key .n)) ≡ getD (checkRows (levelAt FIRST) (a .key)) k noRow → a .k ≡ k → row (c .before .lengths .result) (c .degree .result) ≡ getD (checkRows (levelAt FIRST) (a .key)) (a .k) noRow
-is-row c k row e h = row-at (checkRows (levelAt FIRST) (c .before .before .args .key)) row k (c .before .lengths .ensures) (c .degree .ensures) e h
-
-lengths-requires : tie.Need-lengths-requires
-lengths-requires c κs = search needs
-
-degree-requires : tie.Need-degree-requires
-degree-requires c κs = omega (arith, c .before .pre .1 .two)
-
-mul-t6 : tie.Need-mul-t6
-mul-t6 c = omega (arith, bound (c .before .before) .elements)
-
-sub-t8 : tie.Need-sub-t8
-sub-t8 c = bound (c .before) .some
-
-mul-t9 : tie.Need-mul-t9
-mul-t9 c = omega (arith, bound (c .before .before) .masks)
-
-mul-t10 : tie.Need-mul-t10
-mul-t10 c = omega (arith, bound (c .before .before) .masks)
-
-mul-t12 : tie.Need-mul-t12
-mul-t12 c = omega (arith, bound (c .before .before) .one)
-
-mul-t14 : tie.Need-mul-t14
-mul-t14 c = omega (arith, bound (c .before .before) .values)
+left-requires : tie.Need-left-requires
+left-requires c κs = search needs
 
 returns : tie.Need-returns
-returns c = (is-row (c .before .before) 0 (λ n d. record { tag = 0x11; len = 2 * n .elements; kind = Coordinates }) refl (c .before .match .keys1), omega (arith, bound (c .before .before) .elements))
+unfolding rowTests
+returns c = simp (lt-ltb _ _ (subst (λ k. k < 3) (c .before .left .ensures) (c .if1 .taken)))
+
+shared-slice-read-found : tie.Need-shared-slice-read-found
+shared-slice-read-found c = search needs
+
+add-word-at : tie.Need-add-word-at
+add-word-at c = search needs
+
+word-at-requires : tie.Need-word-at-requires
+word-at-requires c κs = search needs
 
 returns-2 : tie.Need-returns-2
-returns-2 c = (is-row (c .before .before) 1 (λ n d. record { tag = 0x12; len = 2 * (n .one * (d - 1)); kind = Coordinates }) refl (c .before .match .keys2), omega (arith, bound (c .before .before) .masks))
+unfolding rowTests
+returns-2 c =
+    let h = c .before .before .before in
+    simp (le-ltb _ _ (room (h .before) (h .if1 .left)), ne-eqb _ _ (c .if2 .taken))
 
 returns-3 : tie.Need-returns-3
-returns-3 c = (is-row (c .before .before) 2 (λ n d. record { tag = 0x13; len = 2 * n .one; kind = Coordinates }) refl (c .before .match .keys3), omega (arith, bound (c .before .before) .one))
+unfolding rowTests
+returns-3 c =
+    let g = c .before .before in
+    simp (le-ltb _ _ (room (g .before .before .before) (g .before .before .if1 .left)), eq-eqb _ _ (c .before .if2 .left), ne-eqb _ _ (λ h. c .if3 .taken (g .word-at .ensures .0 ∙ h)))
+
+add-start : tie.Need-add-start
+add-start c = search needs
+
+sub-if4 : tie.Need-sub-if4
+sub-if4 c = search needs
 
 returns-4 : tie.Need-returns-4
-returns-4 c = (is-row (c .before .before) 3 (λ n d. record { tag = 0x14; len = 2 * n .values; kind = Coordinates }) refl (omega arith), omega (arith, bound (c .before .before) .values))
+unfolding rowTests
+returns-4 c =
+    let e = c .before in
+    let g = e .before .before in
+    simp (le-ltb _ _ (room (g .before .before .before) (g .before .before .if1 .left)), eq-eqb _ _ (e .before .if2 .left), eq-eqb _ _ (sym (g .word-at .ensures .0) ∙ e .if3 .left), lt-ltb _ _ (c .if4 .taken))
+
+add-end : tie.Need-add-end
+add-end c = search needs
+
+sub-values : tie.Need-sub-values
+sub-values c = search needs
+
+part-values-start : tie.Need-part-values-start
+part-values-start c = search needs
+
+part-values-end : tie.Need-part-values-end
+part-values-end c = search needs
+
+values-requires : tie.Need-values-requires
+values-requires c κs = search needs
+
+returns-5 : tie.Need-returns-5
+returns-5 c =
+    let f = c .before .before in
+    let e = f .before in
+    let g = e .before .before in
+    let a = g .before .before .before .before .before .args in
+    c .values .ensures
+    ∙ ap (λ n. firstOf (valueTests (levelAt FIRST) (a .row .kind) (part (a .at + 3) n (a .s .now)))) (add-sub-cancel-left (a .at + 3) (a .row .len))
+    ∙ row-whole (levelAt FIRST) (a .s .now) (a .at) (a .row) (room (g .before .before .before) (g .before .before .if1 .left)) (e .before .if2 .left) (sym (g .word-at .ensures .0) ∙ e .if3 .left) (f .if4 .left)
 
 pub check-row-spec : {M : Type 1} → statement M
 check-row-spec =
     tie.close
     (tie.spec
-    lengths-requires
-    degree-requires
-    mul-t6
-    sub-t8
-    mul-t9
-    mul-t10
-    mul-t12
-    mul-t14
+    left-requires
     returns
+    shared-slice-read-found
+    add-word-at
+    word-at-requires
     returns-2
     returns-3
-    returns-4)
+    add-start
+    sub-if4
+    returns-4
+    add-end
+    sub-values
+    part-values-start
+    part-values-end
+    values-requires
+    returns-5)

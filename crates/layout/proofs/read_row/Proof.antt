@@ -1,99 +1,70 @@
-use Prim.Native.Nat.{_+_}
-use mathlib.Core.Path.{sym, ap, _∙_}
+use mathlib.Core.Path.{_≡_, sym, _∙_}
+use native.Mathlib.Omega.{arith}
 use borrow.Author.Needs.{needs}
-use native.Mathlib.Nat.{add-sub-cancel-left}
-use borrow.Author.Tests.{lt-ltb, le-ltb, eq-eqb, ne-eqb}
-use Rattle.lists.specs.Words.{part}
-use Rattle.refusal.specs.Answer.{firstOf}
+use Rattle.refusal.specs.declared.Answer.the-variants.{Done}
+use Rattle.refusal.proofs.Answers.{none}
 use Rattle.field.specs.Level.{FIRST, levelAt}
-use Rattle.layout.specs.Tests.{valueTests, rowTests}
-use Rattle.layout.proofs.Rows.{row-whole}
+use Rattle.layout.specs.Tests.{rowTests}
+use Rattle.layout.proofs.Rows.{Passed, passed, row-stops, row-ends}
 use Rattle.layout.proofs.read_row.Statement.{statement}
 use Rattle.layout.proofs.read_row.Tie as tie
 
-sub-if1 : tie.Need-sub-if1
-sub-if1 c = search needs
+-- a row that is not refused lies within the bytes
+whole : (c : tie.After-check-row) → c .check-row .result ≡ Done →
+    let a = c .before .before .before .before .before .args in
+    Passed (levelAt FIRST) (a .s .now) (c .before .before .step2 .given .0 .0) (a .row)
+whole c e =
+    let a = c .before .before .before .before .before .args in
+    let at = c .before .before .step2 .given .0 .0 in
+    passed (levelAt FIRST) (a .s .now) at (a .row) (none (rowTests (levelAt FIRST) (a .s .now) at (a .row)) (sym (c .check-row .ensures) ∙ e))
+
+enum-known-step : tie.Need-enum-known-step
+enum-known-step c = search needs
+
+enum-known-step-2 : tie.Need-enum-known-step-2
+enum-known-step-2 c = search needs
+
+check-row-requires : tie.Need-check-row-requires
+check-row-requires c κs = search needs
+
+enum-known-answer : tie.Need-enum-known-answer
+enum-known-answer c = search needs
+
+enum-told : tie.Need-enum-told
+enum-told c = search needs
+
+add-t10 : tie.Need-add-t10
+add-t10 c = omega (arith, whole (c .before .before) (c .enum-told .given .1) .fits)
+
+add-t11 : tie.Need-add-t11
+add-t11 c = omega (arith, whole (c .before .before .before) (c .before .enum-told .given .1) .fits)
 
 returns : tie.Need-returns
-unfolding rowTests
-returns c = simp (lt-ltb _ _ (c .if1 .taken))
-
-shared-slice-read-found : tie.Need-shared-slice-read-found
-shared-slice-read-found c = search needs
-
-add-word-at : tie.Need-add-word-at
-add-word-at c = search needs
-
-word-at-requires : tie.Need-word-at-requires
-word-at-requires c κs = search needs
+returns c = rw (c .before .step .given .1)
 
 returns-2 : tie.Need-returns-2
-unfolding rowTests
 returns-2 c =
-    let h = c .before .before .before in
-    simp (le-ltb _ _ (h .if1 .left), ne-eqb _ _ (c .if2 .taken))
+    let g = c .before .before .before in
+    let a = g .before .before .before .before .before .args in
+    rw (g .before .before .step2 .given .1) (row-stops (levelAt FIRST) (a .s .now) (g .before .before .step2 .given .0 .0) (a .row) (sym (c .before .answer .given .1) ∙ g .check-row .ensures))
 
 returns-3 : tie.Need-returns-3
-unfolding rowTests
 returns-3 c =
-    let g = c .before .before in
-    simp (le-ltb _ _ (g .before .before .if1 .left), eq-eqb _ _ (c .before .if2 .left), ne-eqb _ _ (λ h. c .if3 .taken (g .word-at .ensures .0 ∙ h)))
-
-add-start : tie.Need-add-start
-add-start c = search needs
-
-sub-if4 : tie.Need-sub-if4
-sub-if4 c = search needs
-
-returns-4 : tie.Need-returns-4
-unfolding rowTests
-returns-4 c =
-    let e = c .before in
-    let g = e .before .before in
-    simp (le-ltb _ _ (g .before .before .if1 .left), eq-eqb _ _ (e .before .if2 .left), eq-eqb _ _ (sym (g .word-at .ensures .0) ∙ e .if3 .left), lt-ltb _ _ (c .if4 .taken))
-
-add-end : tie.Need-add-end
-add-end c = search needs
-
-sub-values : tie.Need-sub-values
-sub-values c = search needs
-
-part-values-start : tie.Need-part-values-start
-part-values-start c = search needs
-
-part-values-end : tie.Need-part-values-end
-part-values-end c = search needs
-
-values-requires : tie.Need-values-requires
-values-requires c κs = search needs
-
-returns-5 : tie.Need-returns-5
-returns-5 c =
-    let f = c .before .before in
-    let e = f .before in
-    let g = e .before .before in
-    let a = g .before .before .before .before .args in
-    c .values .ensures
-    ∙ ap (λ n. firstOf (valueTests (levelAt FIRST) (a .row .kind) (part (a .at + 3) n (a .s .now)))) (add-sub-cancel-left (a .at + 3) (a .row .len))
-    ∙ row-whole (levelAt FIRST) (a .s .now) (a .at) (a .row) (g .before .before .if1 .left) (e .before .if2 .left) (sym (g .word-at .ensures .0) ∙ e .if3 .left) (f .if4 .left)
+    let g = c .before .before .before in
+    let a = g .before .before .before .before .before .args in
+    rw (g .before .before .step2 .given .1) (row-ends (levelAt FIRST) (a .s .now) (g .before .before .step2 .given .0 .0) (a .row) (sym (g .check-row .ensures) ∙ c .before .enum-told .given .1))
 
 pub read-row-spec : {M : Type 1} → statement M
 read-row-spec =
     tie.close
     (tie.spec
-    sub-if1
+    enum-known-step
+    enum-known-step-2
+    check-row-requires
+    enum-known-answer
+    enum-told
+    add-t10
+    add-t11
     returns
-    shared-slice-read-found
-    add-word-at
-    word-at-requires
     returns-2
-    returns-3
-    add-start
-    sub-if4
-    returns-4
-    add-end
-    sub-values
-    part-values-start
-    part-values-end
-    values-requires
-    returns-5)
+    returns-3)

@@ -6,7 +6,7 @@ use borrow.Author.Needs.{needs}
 use Rattle.field.specs.declared.Level.{Level}
 use Rattle.field.specs.Level.{FIRST, levelAt}
 use Rattle.field.specs.Word.{within}
-use Rattle.layout.specs.Tests.{words}
+use Rattle.copying.specs.Words.{words}
 use Rattle.layout.proofs.Words.{words-stop, words-go, words-end}
 use Rattle.layout.proofs.words_within.Statement.{statement}
 use Rattle.layout.proofs.words_within.Tie as tie

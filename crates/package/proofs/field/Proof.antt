@@ -1,14 +1,59 @@
+use mathlib.Core.Path.{_≡_, refl, sym, ap, _∙_}
+use native.Mathlib.Nat.{add-comm, add-sub-cancel-left}
 use borrow.Author.Needs.{needs}
-use Rattle.layout.specs.Layout.{packageRows, checkFileRows}
+use Rattle.lists.specs.Words.{part}
+use Rattle.field.specs.Level.{FIRST, levelAt}
+use Rattle.layout.specs.Layout.{packageRows}
+use Rattle.layout.specs.Tests.{partOf}
+use Rattle.package.specs.Reading.{partIf, packageReader, fieldPart}
+use Rattle.package.proofs.Accepted.{package-whole}
 use Rattle.package.proofs.field.Statement.{statement}
 use Rattle.package.proofs.field.Tie as tie
 
-content-requires : tie.Need-content-requires
-content-requires c κs = search needs
+-- the part is the one of the definition
+found : (c : tie.After-located) →
+    let a = c .before .before .before .args in
+    c .located .result ≡ fieldPart (packageReader (levelAt FIRST)) (a .bytes .now) (a .tag)
+found c =
+    let a = c .before .before .before .args in
+    let s = a .bytes .now in
+    let e = c .before .check-package .ensures in
+    c .located .ensures .0 (levelAt FIRST) (packageRows (levelAt FIRST) s) (λ d. package-whole (levelAt FIRST) s (sym e ∙ d))
+    ∙ ap (λ r. partIf r (partOf (a .tag) 0 (packageRows (levelAt FIRST) s))) e
+
+check-package-requires : tie.Need-check-package-requires
+check-package-requires c κs = search needs
+
+located-requires : tie.Need-located-requires
+located-requires c κs = search needs
+
+add-end : tie.Need-add-end
+add-end c = search needs
+
+sub-result : tie.Need-sub-result
+sub-result c = search needs
+
+part-result-start : tie.Need-part-result-start
+part-result-start c = search needs
+
+part-result-end : tie.Need-part-result-end
+part-result-end c = search needs
 
 returns : tie.Need-returns
-unfolding packageRows checkFileRows
-returns c = c .content .ensures
+returns c =
+    let g = c .before .before in
+    let a = g .before .before .before .args in
+    let p = g .located .result in
+    rw (← found g) (record { bytes = ap (λ n. part (p .start) n (a .bytes .now)) (add-sub-cancel-left (p .start) (p .len)); block = refl; offset = add-comm _ _ })
 
 pub field-spec : {M : Type 1} → statement M
-field-spec = tie.close (tie.spec content-requires returns)
+field-spec =
+    tie.close
+    (tie.spec
+    check-package-requires
+    located-requires
+    add-end
+    sub-result
+    part-result-start
+    part-result-end
+    returns)

@@ -1,0 +1,63 @@
+use Prim.Native.Nat.{ℕ, _*_}
+use mathlib.Core.Path.{_≡_, ap, _∙_}
+use mathlib.Core.List.{List, [], _∷_}
+use native.Mathlib.Omega.{arith}
+use borrow.Author.Needs.{needs}
+use Rattle.field.specs.Level.{FIRST, levelAt}
+use Rattle.key.specs.declared.Lengths.{Lengths}
+use Rattle.layout.specs.declared.Row.{Row}
+use Rattle.layout.specs.declared.Kind.the-variants.{Any, Bits, Coordinates}
+use Rattle.layout.specs.Tests.{outcome}
+use Rattle.layout.proofs.Rows.{outcome-more}
+use Rattle.layout.proofs.Bounds.{Bounds, bounds}
+use Rattle.layout.proofs.read_group.Statement.{statement}
+use Rattle.layout.proofs.read_group.Tie as tie
+
+bound : (c : tie.After-lengths) → Bounds (c .lengths .result)
+bound c = rw (c .lengths .ensures) (bounds (c .before .before .args .key) (c .before .before .pre))
+
+-- the rows, of the lengths
+abbrev serialRow : Row
+serialRow = record { tag = 0x05; len = 2; kind = Any }
+
+abbrev tRow : Lengths → Row
+tRow n = record { tag = 0x06; len = n .bits; kind = Bits }
+
+abbrev aRow : Lengths → Row
+aRow n = record { tag = 0x07; len = 2 * n .proof; kind = Coordinates }
+
+lengths-requires : tie.Need-lengths-requires
+lengths-requires c κs = search needs
+
+mul-t10 : tie.Need-mul-t10
+mul-t10 c = omega (arith, bound (c .before) .proof)
+
+read-row-requires : tie.Need-read-row-requires
+read-row-requires c κs = search needs
+
+read-row-requires-2 : tie.Need-read-row-requires-2
+read-row-requires-2 c κs = search needs
+
+read-row-requires-3 : tie.Need-read-row-requires-3
+read-row-requires-3 c κs = search needs
+
+returns : tie.Need-returns
+returns c =
+    let g = c .before .before .before .before in
+    let a = g .before .before .args in
+    let n = g .lengths .result in
+    let first = c .before .before .read-row .ensures in
+    let second = outcome-more (levelAt FIRST) (a .s .now) (a .at) (serialRow ∷ []) (tRow n ∷ []) first (c .before .read-row2 .ensures) in
+    outcome-more (levelAt FIRST) (a .s .now) (a .at) (serialRow ∷ tRow n ∷ []) (aRow n ∷ []) second (c .read-row3 .ensures)
+    ∙ ap (λ (n : Lengths). outcome (levelAt FIRST) (a .s .now) (a .at) (serialRow ∷ tRow n ∷ aRow n ∷ [])) (g .lengths .ensures)
+
+pub read-group-spec : {M : Type 1} → statement M
+read-group-spec =
+    tie.close
+    (tie.spec
+    lengths-requires
+    mul-t10
+    read-row-requires
+    read-row-requires-2
+    read-row-requires-3
+    returns)

@@ -9,7 +9,8 @@ use Rattle.field.specs.declared.Level.{Level}
 use Rattle.field.specs.Level.{FIRST, levelAt}
 use Rattle.layout.specs.declared.Row.{Row}
 use Rattle.layout.specs.Layout.{checkFileRows}
-use Rattle.layout.specs.Tests.{Whole, partOf}
+use Rattle.layout.specs.Tests.{partOf}
+use Rattle.layout.specs.Steps.{Whole}
 use Rattle.package.specs.declared.Read.{Read}
 use Rattle.package.specs.Reading.{partIf, checkFileReader, reading, IsPart}
 use Rattle.package.proofs.Accepted.{check-file-whole}

@@ -11,7 +11,8 @@ use Rattle.copying.specs.Words.{word}
 use Rattle.field.specs.declared.Level.{Level}
 use Rattle.layout.specs.declared.Row.{Row}
 use Rattle.layout.specs.declared.Part.{Part}
-use Rattle.layout.specs.Tests.{tests, after, partOf, empty, Whole}
+use Rattle.layout.specs.Tests.{tests, after, partOf, empty}
+use Rattle.layout.specs.Steps.{Whole}
 use Rattle.layout.proofs.Rows.{head-passed}
 
 module _ (l : Level) (s : List ℕ) (tag : ℕ) (p : Part) where

@@ -18,7 +18,8 @@ use Rattle.field.specs.declared.Level.{Level}
 use Rattle.layout.specs.declared.Row.{Row}
 use Rattle.layout.specs.declared.Step.{Step}
 use Rattle.layout.specs.declared.Step.the-variants as step
-use Rattle.layout.specs.Tests.{valueTests, rowTests, tests, after, stepped, outcome, further}
+use Rattle.layout.specs.Tests.{valueTests, rowTests, tests, after}
+use Rattle.layout.specs.Steps.{stepped, outcome, further}
 
 -- none of some tests, and none of others
 pub none-append : (xs ys : List (Bool × ℕ)) → None (xs ++ ys) → None xs × None ys

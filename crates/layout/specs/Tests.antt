@@ -1,5 +1,4 @@
 -- The tests that the readers run on any bytes, and where a field's content stands.
-use mathlib.Core.Path.{_≡_}
 use mathlib.Core.Bool.{Bool, not, cond}
 use mathlib.Core.List.{List, [], _∷_, _++_}
 use Prim.Native.Nat.{ℕ, _+_, _-_}
@@ -7,9 +6,6 @@ use lib.Dec.{ltb, eqb}
 use lib.ListN.{length, getD}
 use Rattle.lists.specs.Words.{part}
 use Rattle.copying.specs.Words.{word, words}
-use Rattle.refusal.specs.Answer.{firstOf}
-use Rattle.refusal.specs.declared.Answer.{Answer}
-use Rattle.refusal.specs.declared.Answer.the-variants as answer
 use Rattle.field.specs.declared.Level.{Level}
 use Rattle.field.specs.Word.{within}
 use Rattle.key.specs.declared.Key.{Key}
@@ -18,8 +14,6 @@ use Rattle.layout.specs.declared.Row.{Row}
 use Rattle.layout.specs.declared.Part.{Part}
 use Rattle.layout.specs.declared.Kind.{Kind}
 use Rattle.layout.specs.declared.Kind.the-variants.{Sizes, Elements, Any, Bits, Coordinates}
-use Rattle.layout.specs.declared.Step.{Step}
-use Rattle.layout.specs.declared.Step.the-variants as step
 
 -- "n, m, one byte each", at a position
 abbrev pub keyAt : List ℕ → ℕ → Key
@@ -60,11 +54,6 @@ after at (row ∷ rows) = after (at + 3 + row .len) rows
 abbrev pub endTests : List ℕ → ℕ → List (Bool × ℕ)
 endTests s at = (ltb at (length s), 12) ∷ []
 
--- rows that refuse nothing of the bytes and end with them
-pub record Whole (l : Level) (s : List ℕ) (rows : List Row) : Type 0 where
-  pub accepted : firstOf (tests l s 0 rows) ≡ answer.Done
-  pub ends : after 0 rows ≡ length s
-
 -- the part of the lent bytes that stands for nothing: length 0, at their start
 abbrev pub empty : Part
 empty = record { start = 0; len = 0 }
@@ -73,17 +62,3 @@ empty = record { start = 0; len = 0 }
 unfoldable pub partOf : ℕ → ℕ → List Row → Part
 partOf tag at [] = empty
 partOf tag at (row ∷ rows) = cond (eqb (row .tag) tag) (record { start = at + 3; len = row .len }) (partOf tag (at + 3 + row .len) rows)
-
--- a step: where fields end, or their refusal
-abbrev pub stepped : Answer → ℕ → Step
-stepped answer.Done end = step.Next end
-stepped (answer.Refused r) end = step.Refused r
-
--- the step for fields from a position on
-abbrev pub outcome : Level → List ℕ → ℕ → List Row → Step
-outcome l s at rows = stepped (firstOf (tests l s at rows)) (after at rows)
-
--- a step after another, whose refusal stays
-abbrev pub further : Step → (ℕ → Step) → Step
-further (step.Next at) next = next at
-further (step.Refused r) next = step.Refused r

@@ -13,7 +13,8 @@ use Rattle.field.specs.declared.Level.{Level}
 use Rattle.key.specs.Key.{Sized}
 use Rattle.layout.specs.declared.Row.{Row}
 use Rattle.layout.specs.Layout.{packageRows, packageTests, checkFileRows, checkFileTests}
-use Rattle.layout.specs.Tests.{keyOf, tests, after, endTests, Whole}
+use Rattle.layout.specs.Tests.{keyOf, tests, after, endTests}
+use Rattle.layout.specs.Steps.{Whole}
 use Rattle.package.specs.declared.Contents.{Contents}
 use Rattle.package.specs.declared.Read.the-variants.{Fields}
 use Rattle.package.specs.Reading.{Reader, readAs, contentsOf, reading}

@@ -14,7 +14,8 @@ use Rattle.refusal.proofs.Answers.{None, none}
 use Rattle.field.specs.declared.Level.{Level}
 use Rattle.key.specs.declared.Key.{Key}
 use Rattle.layout.specs.declared.Row.{Row}
-use Rattle.layout.specs.Tests.{keyOf, tests, after, Whole, partOf}
+use Rattle.layout.specs.Tests.{keyOf, tests, after, partOf}
+use Rattle.layout.specs.Steps.{Whole}
 use Rattle.layout.proofs.Rows.{none-done}
 use Rattle.package.specs.declared.Read.the-variants.{Fields}
 use Rattle.package.specs.Reading.{partIf, readAs, contentsOf, reading}

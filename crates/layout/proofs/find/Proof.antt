@@ -5,7 +5,8 @@ use lib.ListN.{length}
 use borrow.Author.Needs.{needs}
 use Rattle.field.specs.declared.Level.{Level}
 use Rattle.layout.specs.declared.Row.{Row}
-use Rattle.layout.specs.Tests.{Whole, partOf}
+use Rattle.layout.specs.Tests.{partOf}
+use Rattle.layout.specs.Steps.{Whole}
 use Rattle.layout.proofs.Rest.{Rest, rest-all, rest-fits, rest-found, rest-past, rest-end}
 use Rattle.layout.proofs.find.Statement.{statement}
 use Rattle.layout.proofs.find.Tie as tie

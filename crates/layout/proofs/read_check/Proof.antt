@@ -7,7 +7,7 @@ use Rattle.field.specs.Level.{FIRST, levelAt}
 use Rattle.key.specs.declared.Lengths.{Lengths}
 use Rattle.layout.specs.declared.Row.{Row}
 use Rattle.layout.specs.declared.Kind.the-variants.{Coordinates}
-use Rattle.layout.specs.Tests.{outcome}
+use Rattle.layout.specs.Steps.{outcome}
 use Rattle.layout.proofs.Rows.{outcome-more}
 use Rattle.layout.proofs.Bounds.{Bounds, bounds}
 use Rattle.layout.proofs.read_check.Statement.{statement}

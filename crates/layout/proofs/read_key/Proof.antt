@@ -11,7 +11,8 @@ use Rattle.key.specs.declared.Lengths.{Lengths}
 use Rattle.key.specs.Key.{Sized, lengths}
 use Rattle.layout.specs.declared.Row.{Row}
 use Rattle.layout.specs.declared.Kind.the-variants.{Elements}
-use Rattle.layout.specs.Tests.{keyOf, tests, after, outcome, further}
+use Rattle.layout.specs.Tests.{keyOf, tests, after}
+use Rattle.layout.specs.Steps.{outcome, further}
 use Rattle.layout.proofs.Rows.{step-next, outcome-more}
 use Rattle.layout.proofs.Files.{sizesRow, first-sized}
 use Rattle.layout.proofs.Bounds.{Bounds, bounds}

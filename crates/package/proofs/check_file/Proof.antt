@@ -8,7 +8,8 @@ use Rattle.refusal.proofs.Answers.{none}
 use Rattle.field.specs.Level.{FIRST, levelAt}
 use Rattle.key.specs.declared.Key.{Key}
 use Rattle.layout.specs.Layout.{checkRows, keyTests, groupTests, groupEnd, checkTests, checkEnd, checkFileTests}
-use Rattle.layout.specs.Tests.{endTests, stepped, outcome}
+use Rattle.layout.specs.Tests.{endTests}
+use Rattle.layout.specs.Steps.{stepped, outcome}
 use Rattle.layout.proofs.Rows.{none-append, none-done, step-next, first-stops, first-ends}
 use Rattle.layout.proofs.Files.{key-sized}
 use Rattle.package.proofs.check_file.Statement.{statement}

@@ -7,7 +7,7 @@ use Rattle.field.specs.Level.{FIRST, levelAt}
 use Rattle.key.specs.declared.Key.{Key}
 use Rattle.layout.specs.declared.Step.the-variants as step
 use Rattle.layout.specs.Layout.{groupRows, keyTests, keyEnd, groupTests, groupEnd}
-use Rattle.layout.specs.Tests.{stepped, outcome}
+use Rattle.layout.specs.Steps.{stepped, outcome}
 use Rattle.layout.proofs.Rows.{step-next, first-stops, first-ends}
 use Rattle.layout.proofs.Files.{key-sized}
 use Rattle.package.proofs.read_fields.Statement.{statement}

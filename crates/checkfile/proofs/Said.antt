@@ -1,12 +1,12 @@
 -- What an accepted check file says: the data that it is written of, which are within the limits.
-use mathlib.Core.Path.{_≡_, refl, sym, ap, ap₂, _∙_, subst}
+use mathlib.Core.Path.{_≡_, sym, ap, _∙_, subst}
 use mathlib.Core.List.{List}
 use Prim.Native.Nat.{ℕ}
-use Rattle.copying.specs.Words.{Bytes, word, words}
+use Rattle.copying.specs.Words.{Bytes}
 use Rattle.copying.proofs.Bytes.{words-bytes, two-word}
 use Rattle.field.specs.Level.{FIRST, levelAt}
 use Rattle.package.specs.Reading.{checkFileReader}
-use Rattle.package.specs.Written.{contentOf, KeyData, Group, Check, checkForm, written}
+use Rattle.package.specs.Written.{contentOf, checkForm, written}
 use Rattle.package.proofs.Accepted.{read-accepts}
 use Rattle.package.proofs.Forms.{check-file-faithful}
 use Rattle.checkfile.specs.Checking.{Accepts, content, keyDataOf, groupOf, checkOf}

@@ -1,7 +1,7 @@
 -- The sizes that field 01 gives, and the tables of packages and check files.
 use mathlib.Core.Path.{_≡_, refl, sym, ap, ap₂, _∙_, subst}
 use mathlib.Core.Bool.{Bool}
-use mathlib.Core.List.{List, [], _∷_, _++_, append-assoc}
+use mathlib.Core.List.{List, [], _∷_, _++_}
 use Prim.Native.Nat.{ℕ, _*_}
 use native.Mathlib.Nat.{add-zero}
 use native.Mathlib.Omega.{arith}
@@ -16,7 +16,7 @@ use Rattle.key.specs.Key.{Sized, lengths}
 use Rattle.key.proofs.Sized.{sized}
 use Rattle.layout.specs.declared.Row.{Row}
 use Rattle.layout.specs.declared.Kind.the-variants.{Sizes, Elements, Any, Bits, Coordinates}
-use Rattle.layout.specs.Layout.{keySegment, groupSegment, checkSegment, keyEnd, groupEnd, checkEnd, keyTests, packageRows, checkFileRows, packageTests, checkFileTests}
+use Rattle.layout.specs.Layout.{keySegment, groupSegment, checkSegment, groupEnd, checkEnd, keyTests, packageRows, checkFileRows, packageTests, checkFileTests}
 use Rattle.layout.specs.Tests.{keyAt, keyOf, tests, after, endTests}
 use Rattle.layout.proofs.Rows.{head-passed, tests-append, after-append}
 

@@ -2,7 +2,7 @@
 ghost use mathlib.Core.Path.{_≡_};
 ghost use mathlib.Core.List.{List, [], _∷_};
 ghost use Prim.Native.Nat.{_+_, _-_, _≤_, _<_};
-ghost use lib.ListN.{length, getD};
+ghost use lib.ListN.{length};
 ghost use Rattle.refusal.specs.Answer.{firstOf};
 ghost use Rattle.copying.specs.Words.{words};
 ghost use Rattle.field.specs.declared.Level.{Level};
@@ -11,7 +11,7 @@ ghost use Rattle.field.specs.Word.{within};
 ghost use Rattle.key.specs.Key.{Sized};
 ghost use Rattle.layout.specs.declared.Row.{Row};
 ghost use Rattle.layout.specs.Layout.{groupRows, checkRows, keyTests, keyEnd};
-ghost use Rattle.layout.specs.Tests.{keyAt, keyOf, valueTests, rowTests, endTests, partOf};
+ghost use Rattle.layout.specs.Tests.{keyAt, valueTests, rowTests, endTests, partOf};
 ghost use Rattle.layout.specs.Steps.{Whole, stepped, outcome, further};
 use field::FIRST;
 use field::Level;

@@ -1,5 +1,5 @@
 -- The laws of any form of file, from those of its segments.
-use mathlib.Core.Path.{_≡_, refl, sym, ap, ap₂, _∙_, subst}
+use mathlib.Core.Path.{_≡_, sym, ap, ap₂, _∙_, subst}
 use mathlib.Core.List.{List, [], _++_, append-nil}
 use Prim.Native.Nat.{ℕ, _+_, _*_, _≤_}
 use native.Mathlib.Nat.{add-zero}
@@ -9,8 +9,7 @@ use Rattle.lists.specs.Words.{part}
 use Rattle.lists.proofs.Words.{part-at}
 use Rattle.copying.specs.Words.{Bytes, word, twoBytes}
 use Rattle.copying.proofs.Bytes.{two-word}
-use Rattle.refusal.specs.Answer.{firstOf}
-use Rattle.refusal.proofs.Answers.{None, none}
+use Rattle.refusal.proofs.Answers.{none}
 use Rattle.field.specs.declared.Level.{Level}
 use Rattle.key.specs.declared.Key.{Key}
 use Rattle.layout.specs.declared.Row.{Row}

@@ -23,7 +23,7 @@ use Rattle.layout.specs.declared.Row.{Row}
 use Rattle.layout.specs.declared.Kind.{Kind}
 use Rattle.layout.specs.declared.Kind.the-variants.{Elements, Coordinates}
 use Rattle.layout.specs.Layout.{keyRows, groupRows, checkRows, packageRows, checkFileRows}
-use Rattle.layout.specs.Tests.{keyAt, keyOf, valueTests, tests, after}
+use Rattle.layout.specs.Tests.{keyAt, keyOf, valueTests, after}
 use Rattle.layout.proofs.Files.{key-part, package-end}
 use Rattle.layout.proofs.Bounds.{bounds}
 use Rattle.package.specs.Written.{joined, contentOf, KeyData, Group, Check, keyFields, groupFields, checkFields, Within, ValidKey, ValidGroup, ValidCheck, packageForm, checkForm, Faithful}

@@ -1,8 +1,7 @@
 -- Segments of fields: what each owes at any position, and what one after another then owes.
 use mathlib.Core.Path.{_≡_, refl, sym, ap, ap₂, _∙_, subst}
-use mathlib.Core.List.{List, [], _∷_, _++_, append-assoc}
-use Prim.Native.Nat.{ℕ, suc, _+_, _≤_}
-use native.Mathlib.Omega.{arith}
+use mathlib.Core.List.{List, [], _++_, append-assoc}
+use Prim.Native.Nat.{ℕ, _+_}
 use lib.ListN.{length, take, drop, length-append}
 use lib.Seq.{take-at, drop-at}
 use Rattle.copying.specs.Words.{Bytes}
@@ -14,7 +13,7 @@ use Rattle.layout.specs.declared.Row.{Row}
 use Rattle.layout.specs.Tests.{keyAt, tests, after}
 use Rattle.layout.proofs.Rows.{none-append, tests-append}
 use Rattle.package.specs.Written.{joined}
-use Rattle.package.proofs.Joined.{Fits, AllBytes, cut, fits-append, fits-length, cut-append, joined-append, after-joined, all-append, exact}
+use Rattle.package.proofs.Joined.{Fits, AllBytes, cut, fits-append, fits-length, cut-append, joined-append, after-joined, all-append}
 
 -- data, their fields, when these are within the limits, their rows, the rows that are told by bytes and the position where they
 -- start, and what may follow, where a row depends on that

@@ -1,11 +1,9 @@
 use Prim.Native.Nat.{ℕ}
-use mathlib.Core.Path.{_≡_, sym, ap, ap₂, _∙_}
-use mathlib.Core.List.{_++_}
+use mathlib.Core.Path.{sym, ap, ap₂, _∙_}
 use borrow.Author.Needs.{needs}
 use Rattle.refusal.specs.Answer.{firstOf}
 use Rattle.field.specs.Level.{FIRST, levelAt}
 use Rattle.key.specs.declared.Key.{Key}
-use Rattle.layout.specs.declared.Step.the-variants as step
 use Rattle.layout.specs.Layout.{groupRows, keyTests, keyEnd, groupTests, groupEnd}
 use Rattle.layout.specs.Steps.{stepped, outcome}
 use Rattle.layout.proofs.Rows.{step-next, first-stops, first-ends}

@@ -71,3 +71,9 @@ pub read-accepts : (reader : Reader) (s : List ℕ) {c : Contents} → reading r
 read-accepts reader s e =
     let f = fields-only (firstOf (reader .tests s)) (contentsOf s (reader .rows s)) e in
     (f .0, ap (λ (c : Contents). record { n = c .n; m = c .m }) (sym (f .1)))
+
+-- what a function tells of any answer and rows holds of a reader's own
+pub of-reader : {A : Type 0} (l : Level) (reader : Reader) (s : List ℕ) (f : Answer → List Row → A) {r : Answer} {p : A}
+    → (firstOf (reader .tests s) ≡ Done → Whole l s (reader .rows s)) → r ≡ firstOf (reader .tests s)
+    → ((l : Level) (rows : List Row) → (r ≡ Done → Whole l s rows) → p ≡ f r rows) → p ≡ f (firstOf (reader .tests s)) (reader .rows s)
+of-reader l reader s f accepts e told = told l (reader .rows s) (λ d. accepts (sym e ∙ d)) ∙ ap (λ a. f a (reader .rows s)) e

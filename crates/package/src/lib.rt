@@ -59,7 +59,7 @@ fn check_package(bytes: &[u8]) -> Answer
     let step = read_fields(bytes);
     match step {
         Step::Refused(refusal) => Answer::Refused(refusal),
-        Step::Next(end) => layout::read_end(bytes, end),
+        Step::Next(at) => layout::read_end(bytes, at),
     }
 }
 

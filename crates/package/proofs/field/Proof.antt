@@ -1,12 +1,11 @@
-use mathlib.Core.Path.{_≡_, refl, sym, ap, _∙_}
+use mathlib.Core.Path.{_≡_, refl, ap}
 use native.Mathlib.Nat.{add-comm, add-sub-cancel-left}
 use borrow.Author.Needs.{needs}
 use Rattle.lists.specs.Words.{part}
 use Rattle.field.specs.Level.{FIRST, levelAt}
-use Rattle.layout.specs.Layout.{packageRows}
 use Rattle.layout.specs.Tests.{partOf}
 use Rattle.package.specs.Reading.{partIf, packageReader, fieldPart}
-use Rattle.package.proofs.Accepted.{package-whole}
+use Rattle.package.proofs.Accepted.{package-whole, of-reader}
 use Rattle.package.proofs.field.Statement.{statement}
 use Rattle.package.proofs.field.Tie as tie
 
@@ -17,9 +16,7 @@ found : (c : tie.After-located) →
 found c =
     let a = c .before .before .before .args in
     let s = a .bytes .now in
-    let e = c .before .check-package .ensures in
-    c .located .ensures .0 (levelAt FIRST) (packageRows (levelAt FIRST) s) (λ d. package-whole (levelAt FIRST) s (sym e ∙ d))
-    ∙ ap (λ r. partIf r (partOf (a .tag) 0 (packageRows (levelAt FIRST) s))) e
+    of-reader (levelAt FIRST) (packageReader (levelAt FIRST)) s (λ r rows. partIf r (partOf (a .tag) 0 rows)) (package-whole (levelAt FIRST) s) (c .before .check-package .ensures) (c .located .ensures .0)
 
 check-package-requires : tie.Need-check-package-requires
 check-package-requires c κs = search needs

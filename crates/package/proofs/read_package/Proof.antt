@@ -1,9 +1,7 @@
-use mathlib.Core.Path.{sym, ap, _∙_}
 use borrow.Author.Needs.{needs}
 use Rattle.field.specs.Level.{FIRST, levelAt}
-use Rattle.layout.specs.Layout.{packageRows}
-use Rattle.package.specs.Reading.{readAs, contentsOf}
-use Rattle.package.proofs.Accepted.{package-whole}
+use Rattle.package.specs.Reading.{readAs, contentsOf, packageReader}
+use Rattle.package.proofs.Accepted.{package-whole, of-reader}
 use Rattle.package.proofs.read_package.Statement.{statement}
 use Rattle.package.proofs.read_package.Tie as tie
 
@@ -16,9 +14,7 @@ read-as-requires c κs = search needs
 returns : tie.Need-returns
 returns c =
     let s = c .before .before .before .args .bytes .now in
-    let e = c .before .check-package .ensures in
-    c .read-as .ensures (levelAt FIRST) (packageRows (levelAt FIRST) s) (λ d. package-whole (levelAt FIRST) s (sym e ∙ d))
-    ∙ ap (λ r. readAs r (contentsOf s (packageRows (levelAt FIRST) s))) e
+    of-reader (levelAt FIRST) (packageReader (levelAt FIRST)) s (λ r rows. readAs r (contentsOf s rows)) (package-whole (levelAt FIRST) s) (c .before .check-package .ensures) (c .read-as .ensures)
 
 pub read-package-spec : {M : Type 1} → statement M
 read-package-spec = tie.close (tie.spec check-package-requires read-as-requires returns)

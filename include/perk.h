@@ -14,9 +14,10 @@
  *
  *     if (perk_verify(..) == PERK_ACCEPTED) ..       and not: if (perk_verify(..)) ..
  *
- * Any other number is a refusal, 1 to 12, and then every output holds what it held before. Refusals are tried in the
- * order in which a function lists them; the first that applies is the result. Sizes and lengths are decided before any
- * slice is read, so that a length in bytes for one in words is refused with 3; this is tested, and not part of the proof.
+ * Any other number is a refusal, 1 to 12 or 19, and then every output holds what it held before. Refusals are tried in
+ * the order in which a function lists them; the first that applies is the result. Sizes and lengths are decided before
+ * any slice is read, so that a length in bytes for one in words is refused with 3; this is tested, and not part of the
+ * proof.
  *
  * Numbers. An element of F is a number 0 to 2047 whose bit i is the coefficient of z^i, with z^11 = z^2 + 1. An element
  * of K is PERK_ELEMENT_WORDS = 12 words, coordinate 0 first, each an element of F, with Y^12 = Y^3 + 1; several elements
@@ -68,8 +69,9 @@
 #define PERK_TOP 8           /* a top coefficient of the n + m polynomials is not zero: the positions do not solve the key */
 #define PERK_BYTES_MISSING 9 /* fewer bytes remain than a field's tag and length, or its content, need */
 #define PERK_TAG 10          /* not the tag that comes next */
-#define PERK_FIELD_LENGTH 11 /* not the length that the field has for these sizes */
+#define PERK_FIELD_LENGTH 11 /* not a length that the field has for these sizes */
 #define PERK_BYTES_FOLLOW 12 /* bytes follow the last field */
+#define PERK_LONG_SERIAL 19  /* a serial of four bytes is below 65536, so that it fits two */
 
 /* d, for n from 2 to 64; a constant expression where n is one */
 #define PERK_DIGITS(n) ((n) > 32 ? 6 : (n) > 16 ? 5 : (n) > 8 ? 4 : (n) > 4 ? 3 : (n) > 2 ? 2 : 1)
@@ -92,12 +94,16 @@
 #define PERK_MASKS_WORDS(n) (12 * (PERK_DIGITS(n) - 1))
 #define PERK_VALUES_WORDS(n, m) (12 * ((n) + (m)))
 
-/* lengths of files: of one with these sizes, and of the largest */
-#define PERK_PACKAGE_BYTES(n, m) (22 + 2 * (m) * (n) + 2 * (n) + (n) * PERK_DIGITS(n) + 24 * PERK_DIGITS(n))
-#define PERK_CHECK_FILE_BYTES(n, m) \
-    (PERK_PACKAGE_BYTES(n, m) + 36 + 24 * (n) * PERK_DIGITS(n) + 24 * (PERK_DIGITS(n) - 1) + 24 * ((n) + (m)))
-#define PERK_LARGEST_PACKAGE_BYTES 8742
-#define PERK_LARGEST_CHECK_FILE_BYTES 21162
+/* length of a serial, 0 to 4294967295: two bytes where it fits them, else four */
+#define PERK_SERIAL_BYTES(serial) ((serial) >> 16 ? 4 : 2)
+
+/* lengths of files: of one with these sizes and this serial, and of the largest */
+#define PERK_PACKAGE_BYTES(n, m, serial) \
+    (20 + 2 * (m) * (n) + 2 * (n) + PERK_SERIAL_BYTES(serial) + (n) * PERK_DIGITS(n) + 24 * PERK_DIGITS(n))
+#define PERK_CHECK_FILE_BYTES(n, m, serial) \
+    (PERK_PACKAGE_BYTES(n, m, serial) + 36 + 24 * (n) * PERK_DIGITS(n) + 24 * (PERK_DIGITS(n) - 1) + 24 * ((n) + (m)))
+#define PERK_LARGEST_PACKAGE_BYTES 8744
+#define PERK_LARGEST_CHECK_FILE_BYTES 21164
 
 /* the tags of fields */
 #define PERK_TAG_SIZES 0x01
@@ -227,20 +233,23 @@ uint32_t perk_verify(size_t n, size_t m, const uint16_t *h, size_t h_len, const 
 
 /*
  * Packages and check files are fields one after another, each a tag of one byte, a length of two bytes and its content of
- * as many bytes; numbers of two bytes are highest byte first. An element of F takes two bytes, one of K twelve elements of F.
+ * as many bytes; numbers are highest byte first. An element of F takes two bytes, one of K twelve elements of F.
  * A package has exactly the first six of these fields, in this order, and a check file all ten:
  *
  *   tag   content                            bytes            refusals of its values
  *   01    n, m, one byte each                2                1, 2
  *   02    H, row after row                   2 m n            4
  *   03    x                                  2 n              4
- *   05    the serial, any number             2
+ *   05    the serial, 0 to 4294967295        2 or 4           19
  *   06    t, one byte for each bit           n d              5
  *   07    a                                  24 d             6
  *   11    q                                  24 n d           6
  *   12    the mask numbers                   24 (d - 1)       6     (empty where n is 2)
  *   13    delta                              24               6
  *   14    alpha                              24 (n + m)       6
+ *
+ * A serial takes two bytes where it fits them, up to 65535, and four otherwise. So each number has one form, and each
+ * package too: four bytes with a number below 65536 are refused with 19, and any length other than 2 and 4 with 11.
  *
  * The readers try for each field in turn 9 (fewer than 3 bytes remain), 10, 11, 9 (fewer than the length remain) and the
  * refusals of its values, and after the last field 12. They read any number of bytes.
@@ -252,7 +261,7 @@ PERK_LOOK_AT_RESULT
 uint32_t perk_read_package(const uint8_t *bytes, size_t bytes_len, uint32_t *n, uint32_t *m, uint32_t *serial);
 
 /*
- * The same of a check file, whose first PERK_PACKAGE_BYTES(n, m) bytes are a package. Stack: under 2 KiB.
+ * The same of a check file, whose first PERK_PACKAGE_BYTES(n, m, serial) bytes are a package. Stack: under 2 KiB.
  */
 PERK_LOOK_AT_RESULT
 uint32_t perk_read_check_file(const uint8_t *bytes, size_t bytes_len, uint32_t *n, uint32_t *m, uint32_t *serial);
@@ -281,22 +290,24 @@ uint32_t perk_check(const uint8_t *bytes, size_t bytes_len);
  * A result in words. This function is the header's and not the library's, and not proved.
  */
 static inline const char *perk_refusal_text(uint32_t number) {
-    static const char *const texts[] = {
-        "done, or accepted",
-        "n is below 2 or above 64",
-        "m is 0, or at least n",
-        "a slice is not of its stated length",
-        "an element of H or x is above 2047",
-        "a byte of u or t is above 1",
-        "a coordinate of an element of K is above 2047",
-        "a position is 2^d or more",
-        "a top coefficient is not zero: the positions do not solve the key",
-        "the bytes end before a field is complete",
-        "a tag is not the one that comes next",
-        "a field's length is not the one stated for it",
-        "bytes follow the last field"};
-    if (number < sizeof texts / sizeof texts[0]) return texts[number];
-    return number == PERK_REJECTED ? "rejected" : "no result of this library";
+    switch (number) {
+    case PERK_DONE: return "done, or accepted";
+    case PERK_SIZE_N: return "n is below 2 or above 64";
+    case PERK_SIZE_M: return "m is 0, or at least n";
+    case PERK_SLICE_LENGTH: return "a slice is not of its stated length";
+    case PERK_KEY_ELEMENT: return "an element of H or x is above 2047";
+    case PERK_BIT: return "a byte of u or t is above 1";
+    case PERK_COORDINATE: return "a coordinate of an element of K is above 2047";
+    case PERK_POSITION: return "a position is 2^d or more";
+    case PERK_TOP: return "a top coefficient is not zero: the positions do not solve the key";
+    case PERK_BYTES_MISSING: return "the bytes end before a field is complete";
+    case PERK_TAG: return "a tag is not the one that comes next";
+    case PERK_FIELD_LENGTH: return "a field's length is not one stated for it";
+    case PERK_BYTES_FOLLOW: return "bytes follow the last field";
+    case PERK_LONG_SERIAL: return "a serial of four bytes is below 65536, so that it fits two";
+    case PERK_REJECTED: return "rejected";
+    default: return "no result of this library";
+    }
 }
 
 #endif

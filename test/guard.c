@@ -1,6 +1,7 @@
 /*
  * Lengths are decided before a slice is read: each slice ends where memory ends, and where its stated length is too long, as a length in bytes
- * for one in words is, the answer is 3 and nothing past the end is read. Prints how many calls were made.
+ * for one in words is, the answer is 3 and nothing past the end is read. The readers take files that end where memory ends, whole and cut at
+ * every byte. Prints how many calls were made.
  */
 #include <stdint.h>
 #include <stdio.h>
@@ -66,8 +67,55 @@ static void place(struct slice *s) {
     s->told = s->count;
 }
 
+static unsigned calls, failed;
+
+/* one call of a reader */
+static void read_to_end(const char *name, size_t len, uint32_t found, uint32_t stated) {
+    calls++;
+    if (found == stated) return;
+    printf("%s: %u for %zu bytes\n", name, (unsigned)found, len);
+    failed++;
+}
+
+/* the check file of n = 2, m = 1, H = (1 0) and x = (0 0) with this field of a serial; the fields after it are zero, weights and a too, so
+   that it is accepted */
+static void file(const uint8_t *serial, size_t serial_len) {
+    static const uint8_t key[] = {PERK_TAG_SIZES, 0, 2, 2, 1, PERK_TAG_H, 0, 4, 0, 1, 0, 0, PERK_TAG_X, 0, 4, 0, 0, 0, 0};
+    static const struct {
+        uint8_t tag, length;
+    } after[] = {{PERK_TAG_T, 2}, {PERK_TAG_A, 24}, {PERK_TAG_Q, 48}, {PERK_TAG_MASKS, 0}, {PERK_TAG_DELTA, 24}, {PERK_TAG_ALPHA, 72}};
+    uint8_t bytes[PERK_CHECK_FILE_BYTES(2, 1, 65536)] = {0};
+    size_t len = sizeof key, package_len = 0;
+    memcpy(bytes, key, len);
+    memcpy(bytes + len, serial, serial_len);
+    len += serial_len;
+    for (size_t i = 0; i < sizeof after / sizeof *after; i++) {
+        if (after[i].tag == PERK_TAG_Q) package_len = len;
+        bytes[len] = after[i].tag;
+        bytes[len + 2] = after[i].length;
+        len += 3 + after[i].length;
+    }
+    struct slice s = {len, 1, NULL, 0};
+    place(&s);
+    for (size_t part = 0; part <= len; part++) {
+        uint32_t n, m, number;
+        size_t start;
+        uint8_t *end = (uint8_t *)s.start + len, *from = end - part;
+        memcpy(from, bytes, part);
+        uint32_t stated = part < len ? PERK_BYTES_MISSING : PERK_DONE;
+        read_to_end("perk_read_check_file", part, perk_read_check_file(from, part, &n, &m, &number), stated);
+        read_to_end("perk_check", part, perk_check(from, part), stated);
+        stated = part < package_len ? PERK_BYTES_MISSING : part > package_len ? PERK_BYTES_FOLLOW : PERK_DONE;
+        read_to_end("perk_read_package", part, perk_read_package(from, part, &n, &m, &number), stated);
+        uint32_t length = (uint32_t)perk_field(from, part, PERK_TAG_SERIAL, &start);
+        read_to_end("perk_field", part, length, part == package_len ? (uint32_t)(serial_len - 3) : 0);
+    }
+}
+
 int main(void) {
-    unsigned calls = 0, failed = 0;
+    static const uint8_t short_serial[] = {PERK_TAG_SERIAL, 0, 2, 255, 255}, long_serial[] = {PERK_TAG_SERIAL, 0, 4, 0, 1, 0, 0};
+    file(short_serial, sizeof short_serial);
+    file(long_serial, sizeof long_serial);
     for (size_t e = 0; e < sizeof entries / sizeof *entries; e++) {
         struct slice *s = entries[e].slices;
         size_t slices = 0;

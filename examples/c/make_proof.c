@@ -1,9 +1,10 @@
 /*
- * For card makers: proves key A of docs/specification.md with the positions given, and writes the package to standard output.
- * A card that cannot prove says what was wrong.
+ * For card makers: proves key A of docs/specification.md with the positions given, and writes the package to standard output,
+ * with the serial 7 or another one. A card that cannot prove says what was wrong.
  *
  *   gcc -I../../include make_proof.c ../../target/staticlib/libperk.a -o make_proof
  *   ./make_proof 0 1 > key_a.package         ./make_proof 1 0        (refused 8)
+ *   ./make_proof 0 1 65536 > long.package    (a serial of four bytes)
  */
 #include <stdio.h>
 #include <stdlib.h>
@@ -11,7 +12,8 @@
 
 enum { N = 2, M = 1, SERIAL = 7 };
 
-static uint8_t package[PERK_PACKAGE_BYTES(N, M)];
+/* room for a serial of four bytes */
+static uint8_t package[PERK_PACKAGE_BYTES(N, M, UINT32_MAX)];
 static size_t length;
 
 static void put_byte(unsigned byte) { package[length++] = (uint8_t)byte; }
@@ -33,6 +35,14 @@ static void put_bytes(unsigned tag, const uint8_t *bytes, size_t count) {
     for (size_t i = 0; i < count; i++) put_byte(bytes[i]);
 }
 
+/* the field of a serial, highest byte first: two bytes where it fits them, else four */
+static void put_serial(uint32_t serial) {
+    unsigned count = PERK_SERIAL_BYTES(serial);
+    put_byte(PERK_TAG_SERIAL);
+    put_word(count);
+    while (count-- > 0) put_byte(serial >> (8 * count) & 255);
+}
+
 int main(int argc, char **argv) {
     /* the key: H and x */
     const uint16_t h[PERK_H_WORDS(N, M)] = {2, 1}, x[PERK_X_WORDS(N)] = {1, 2};
@@ -43,8 +53,11 @@ int main(int argc, char **argv) {
     /* the weights, which the card's host takes after the commitment to the correlations */
     const uint16_t alpha[PERK_ALPHA_WORDS(N, M)] = {[0] = 1, [12] = 2, [24] = 1};
 
-    if (argc != 1 + N) {
-        fprintf(stderr, "usage: make_proof POSITION POSITION\n");
+    char *end = NULL;
+    unsigned long serial = argc == 2 + N ? strtoul(argv[1 + N], &end, 10) : SERIAL;
+    int number = end == NULL || (end != argv[1 + N] && *end == '\0');
+    if (argc < 1 + N || argc > 2 + N || !number || serial > UINT32_MAX) {
+        fprintf(stderr, "usage: make_proof POSITION POSITION [SERIAL]\n");
         return 2;
     }
     for (int i = 0; i < N; i++) {
@@ -65,7 +78,7 @@ int main(int argc, char **argv) {
     put_bytes(PERK_TAG_SIZES, (const uint8_t[2]){N, M}, 2);
     put_words(PERK_TAG_H, h, PERK_H_WORDS(N, M));
     put_words(PERK_TAG_X, x, PERK_X_WORDS(N));
-    put_words(PERK_TAG_SERIAL, (const uint16_t[1]){SERIAL}, 1);
+    put_serial((uint32_t)serial);
     put_bytes(PERK_TAG_T, t, PERK_T_BYTES(N));
     put_words(PERK_TAG_A, a, PERK_A_WORDS(N));
     return fwrite(package, 1, length, stdout) == length && fflush(stdout) == 0 ? 0 : 1;

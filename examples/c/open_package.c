@@ -21,7 +21,8 @@ int main(void) {
         printf("refused %u: %s\n", (unsigned)result, perk_refusal_text(result));
         return 1;
     }
-    printf("n %u m %u serial %u\n", (unsigned)n, (unsigned)m, (unsigned)serial);
+    /* the serial is a number of 32 bits; its field has two bytes or four */
+    printf("n %u m %u serial %lu\n", (unsigned)n, (unsigned)m, (unsigned long)serial);
     for (size_t i = 0; i < sizeof fields / sizeof *fields; i++) {
         size_t start, length = perk_field(bytes, len, fields[i].tag, &start);
         printf("%s:", fields[i].name);

@@ -52,11 +52,11 @@ int main(void) {
     result = perk_verify(N, M, h, PERK_H_WORDS(N, M), x, PERK_X_WORDS(N), package + start, t_len, q, PERK_Q_WORDS(N),
                          delta, PERK_DELTA_WORDS, NULL, PERK_MASKS_WORDS(N), alpha, PERK_ALPHA_WORDS(N, M), a, PERK_A_WORDS(N));
     if (result == PERK_ACCEPTED) {
-        printf("serial %u accepted\n", (unsigned)serial);
+        printf("serial %lu accepted\n", (unsigned long)serial);
         return 0;
     }
     if (result == PERK_REJECTED)
-        printf("serial %u rejected\n", (unsigned)serial);
+        printf("serial %lu rejected\n", (unsigned long)serial);
     else
         printf("refused %u: %s\n", (unsigned)result, perk_refusal_text(result));
     return 1;

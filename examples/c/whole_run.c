@@ -13,11 +13,14 @@
 #include <string.h>
 #include "perk.h"
 
-enum { N = 64, M = 27, D = PERK_DIGITS(N), W = PERK_ELEMENT_WORDS, SERIAL = 4711 };
+enum { N = 64, M = 27, D = PERK_DIGITS(N), W = PERK_ELEMENT_WORDS };
+
+/* above 65535, so that it takes four bytes; a smaller one takes two */
+#define SERIAL 3000004711
 
 static uint16_t h[PERK_H_WORDS(N, M)], x[PERK_X_WORDS(N)], v[N * D][W], r[D - 1][W], s[D - 1][W], alpha[PERK_ALPHA_WORDS(N, M)];
 static uint16_t q[N * D][W], delta[W], masks[D - 1][W], a[PERK_A_WORDS(N)];
-static uint8_t positions[N], u[N * D], t[PERK_T_BYTES(N)], file[PERK_CHECK_FILE_BYTES(N, M)];
+static uint8_t positions[N], u[N * D], t[PERK_T_BYTES(N)], file[PERK_CHECK_FILE_BYTES(N, M, SERIAL)];
 static size_t file_len;
 
 /* stops the program where a call is not done */
@@ -112,14 +115,20 @@ static void put_words(unsigned tag, const uint16_t *words, size_t count) {
     }
 }
 
+/* highest byte first, in as many bytes as the number must have */
+static void put_serial(uint32_t serial) {
+    unsigned count = PERK_SERIAL_BYTES(serial);
+    put_head(PERK_TAG_SERIAL, count);
+    while (count-- > 0) file[file_len++] = (uint8_t)(serial >> (8 * count) & 255);
+}
+
 static void make_file(void) {
-    const uint16_t serial = SERIAL;
     put_head(PERK_TAG_SIZES, 2);
     file[file_len++] = N;
     file[file_len++] = M;
     put_words(PERK_TAG_H, h, PERK_H_WORDS(N, M));
     put_words(PERK_TAG_X, x, PERK_X_WORDS(N));
-    put_words(PERK_TAG_SERIAL, &serial, 1);
+    put_serial(SERIAL);
     put_head(PERK_TAG_T, sizeof t);
     memcpy(file + file_len, t, sizeof t);
     file_len += sizeof t;
@@ -168,9 +177,9 @@ int main(int argc, char **argv) {
 
     /* the package is the first part of the check file */
     uint32_t n, m, serial;
-    size_t package_len = PERK_PACKAGE_BYTES(N, M), start, length;
+    size_t package_len = PERK_PACKAGE_BYTES(N, M, SERIAL), start, length;
     done("read check file", perk_read_check_file(file, file_len, &n, &m, &serial));
-    printf("n %u m %u serial %u, %lu bytes, of which %lu are the package\n", (unsigned)n, (unsigned)m, (unsigned)serial,
+    printf("n %u m %u serial %lu, %lu bytes, of which %lu are the package\n", (unsigned)n, (unsigned)m, (unsigned long)serial,
            (unsigned long)file_len, (unsigned long)package_len);
     length = perk_field(file, package_len, PERK_TAG_T, &start);
     printf("field 06: %lu bytes, %s\n", (unsigned long)length, memcmp(file + start, t, sizeof t) == 0 ? "those of t" : "others");
@@ -179,7 +188,13 @@ int main(int argc, char **argv) {
     tamper("one bit of a changed", start + length - 1, 1);
     tamper("a coordinate of a above 2047", start, 8);
     length = perk_field(file, package_len, PERK_TAG_SERIAL, &start);
-    tamper("another serial", start, 1);
+    printf("field 05: %lu bytes\n", (unsigned long)length);
+    tamper("another serial", start + length - 1, 1);
+    /* the number would be one that fits two bytes, and such a number has two */
+    uint8_t bytes[2] = {file[start], file[start + 1]};
+    file[start] = file[start + 1] = 0;
+    check("a small serial in four bytes");
+    memcpy(file + start, bytes, 2);
     tamper("another tag", 0, 2);
 
     /* two positions exchanged: another order does not solve the key */

@@ -3,11 +3,12 @@ use mathlib.Core.Path.{_≡_, sym, ap, _∙_, subst}
 use mathlib.Core.List.{List}
 use Prim.Native.Nat.{ℕ}
 use Rattle.copying.specs.Words.{Bytes}
-use Rattle.copying.proofs.Bytes.{words-bytes, two-word}
+use Rattle.copying.proofs.Bytes.{words-bytes}
 use Rattle.field.specs.Level.{FIRST, levelAt}
 use Rattle.package.specs.Reading.{checkFileReader}
 use Rattle.package.specs.Written.{contentOf, checkForm, written}
 use Rattle.package.proofs.Accepted.{read-accepts}
+use Rattle.package.proofs.Serial.{from-serial}
 use Rattle.package.proofs.Forms.{check-file-faithful}
 use Rattle.checkfile.specs.Checking.{Accepts, content, keyDataOf, groupOf, checkOf}
 
@@ -26,7 +27,7 @@ data-written x v =
     let k = x .0 .0 in
     let g = x .0 .1 in
     let c = x .1 in
-    rw (at 0x02, at 0x03, at 0x05, at 0x06, at 0x07, at 0x11, at 0x12, at 0x13, at 0x14, words-bytes (k .h), words-bytes (k .x), two-word (g .serial), words-bytes (g .a), words-bytes (c .q), words-bytes (c .masks), words-bytes (c .delta), words-bytes (c .alpha), key)
+    rw (at 0x02, at 0x03, at 0x05, at 0x06, at 0x07, at 0x11, at 0x12, at 0x13, at 0x14, words-bytes (k .h), words-bytes (k .x), from-serial (g .serial), words-bytes (g .a), words-bytes (c .q), words-bytes (c .masks), words-bytes (c .delta), words-bytes (c .alpha), key)
 
 -- accepted bytes are written of data within the limits, so what they say is within the limits
 pub within-limits : (s : List ℕ) → Bytes s → Accepts (levelAt FIRST) s → checkForm (levelAt FIRST) .Limits (dataOf s)

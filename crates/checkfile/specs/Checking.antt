@@ -1,7 +1,7 @@
 -- What checking a file answers: the reader's answer and, where it accepts, the verifier's.
 use mathlib.Core.List.{List}
 use Prim.Native.Nat.{ℕ}
-use Rattle.copying.specs.Words.{word, words}
+use Rattle.copying.specs.Words.{words, fromBytes}
 use Rattle.refusal.specs.declared.Verdict.{Verdict}
 use Rattle.refusal.specs.declared.Verdict.the-variants as verdict
 use Rattle.field.specs.declared.Level.{Level}
@@ -41,7 +41,7 @@ module _ (l : Level) where
   keyDataOf s = record { sizes = keyOf s; h = words (content s 0x02); x = words (content s 0x03) }
 
   abbrev pub groupOf : List ℕ → Group
-  groupOf s = record { serial = word (content s 0x05) 0; t = content s 0x06; a = words (content s 0x07) }
+  groupOf s = record { serial = fromBytes (content s 0x05); t = content s 0x06; a = words (content s 0x07) }
 
   abbrev pub checkOf : List ℕ → Check
   checkOf s = record {

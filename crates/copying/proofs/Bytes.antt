@@ -1,4 +1,4 @@
--- Numbers as bytes, two to a number, and back.
+-- Numbers as bytes and back.
 use mathlib.Core.Path.{_≡_, refl, sym, ap, ap₂, _∙_, subst}
 use mathlib.Core.List.{List, [], _∷_, _++_}
 use Prim.Native.Nat.{ℕ, zero, suc, _+_, _*_, _/_, _%_, _≤_, _<_}
@@ -7,7 +7,7 @@ use native.Mathlib.Omega.{arith}
 use lib.ListN.{length, getD, drop, length-take, List·getD-eq-default}
 use Rattle.lists.specs.Words.{part}
 use Rattle.lists.proofs.Words.{part-at}
-use Rattle.copying.specs.Words.{Bytes, word, words, twoBytes, wordBytes}
+use Rattle.copying.specs.Words.{Bytes, word, words, twoBytes, wordBytes, fromBytesAfter, fromBytes}
 use Rattle.copying.proofs.Words.{words-half}
 
 pub words-bytes : (s : List ℕ) → words (wordBytes s) ≡ s
@@ -54,17 +54,6 @@ bytes-words (x ∷ y ∷ c) (suc k) b h =
     let rest : (x * 256 + y) % 256 ≡ y = omega arith in
     ap₂ _∷_ high (ap₂ _∷_ rest (bytes-words c k (λ i. b (suc (suc i))) (omega arith)))
 
--- one number
-pub two-word : (x : ℕ) → word (twoBytes x) 0 ≡ x
-two-word x = omega arith
-
-pub word-two : (c : List ℕ) → Bytes c → length c ≡ 2 → twoBytes (word c 0) ≡ c
-unfolding words wordBytes
-word-two [] b h = absurd (omega arith)
-word-two (x ∷ []) b h = absurd (omega arith)
-word-two (x ∷ y ∷ []) b h = bytes-words (x ∷ y ∷ []) 1 b h
-word-two (x ∷ y ∷ z ∷ c) b h = absurd (omega arith)
-
 pub word-lt : (s : List ℕ) (i : ℕ) → Bytes s → word s i < 65536
 word-lt s i b = omega (arith, b i, b (i + 1))
 
@@ -96,3 +85,19 @@ pub word-bytes : (s : List ℕ) → ((i : ℕ) → getD s i 0 < 65536) → Bytes
 unfolding wordBytes
 word-bytes [] h = λ i. omega arith
 word-bytes (x ∷ s) h = bytes-append (twoBytes x) (wordBytes s) (two-bytes x (h 0)) (word-bytes s (λ i. h (suc i)))
+
+-- four bytes or fewer make a number below 2^32
+pub from-lt : (c : List ℕ) → Bytes c → length c ≤ 4 → fromBytes c < 4294967296
+unfolding fromBytesAfter
+from-lt [] b h = omega arith
+from-lt (x₀ ∷ []) b h = omega (arith, b 0)
+from-lt (x₀ ∷ x₁ ∷ []) b h = omega (arith, b 0, b 1)
+from-lt (x₀ ∷ x₁ ∷ x₂ ∷ []) b h = omega (arith, b 0, b 1, b 2)
+from-lt (x₀ ∷ x₁ ∷ x₂ ∷ x₃ ∷ []) b h = omega (arith, b 0, b 1, b 2, b 3)
+from-lt (x₀ ∷ x₁ ∷ x₂ ∷ x₃ ∷ x₄ ∷ c) b h = absurd (omega arith)
+
+-- the lowest 32 bits of what comes before decide those of the number
+pub from-low : (v w : ℕ) (c : List ℕ) → v % 4294967296 ≡ w % 4294967296 → fromBytesAfter v c % 4294967296 ≡ fromBytesAfter w c % 4294967296
+unfolding fromBytesAfter
+from-low v w [] h = h
+from-low v w (x ∷ c) h = from-low (v * 256 + x) (w * 256 + x) c (omega arith)

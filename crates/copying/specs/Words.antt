@@ -1,4 +1,4 @@
--- Bytes, and numbers of two bytes: read from bytes and written as bytes.
+-- Bytes, and numbers of two and four bytes: read from bytes and written as bytes.
 use mathlib.Core.List.{List, [], _∷_, _++_}
 use Prim.Native.Nat.{ℕ, _+_, _*_, _/_, _%_, _<_}
 use lib.ListN.{getD}
@@ -21,7 +21,20 @@ words (a ∷ b ∷ s) = (a * 256 + b) ∷ words s
 abbrev pub twoBytes : ℕ → List ℕ
 twoBytes x = x / 256 ∷ x % 256 ∷ []
 
--- numbers as such bytes, one after the other
+-- a number as its four bytes, those of its higher half first
+abbrev pub fourBytes : ℕ → List ℕ
+fourBytes x = twoBytes (x / 65536) ++ twoBytes (x % 65536)
+
+-- the number that bytes make after a number v
+unfoldable pub fromBytesAfter : ℕ → List ℕ → ℕ
+fromBytesAfter v [] = v
+fromBytesAfter v (b ∷ s) = fromBytesAfter (v * 256 + b) s
+
+-- "highest byte first": the number that bytes make
+abbrev pub fromBytes : List ℕ → ℕ
+fromBytes s = fromBytesAfter 0 s
+
+-- numbers as their two bytes, one after the other
 unfoldable pub wordBytes : List ℕ → List ℕ
 wordBytes [] = []
 wordBytes (x ∷ s) = twoBytes x ++ wordBytes s

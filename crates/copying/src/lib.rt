@@ -1,9 +1,9 @@
-// Bytes and numbers of two bytes, put into and read from lent slices.
+// Bytes and the numbers that they make, put into and read from lent slices.
 ghost use mathlib.Core.Path.{_≡_};
-ghost use Prim.Native.Nat.{_+_, _*_, _≤_, _<_};
+ghost use Prim.Native.Nat.{_+_, _*_, _%_, _≤_, _<_};
 ghost use lib.ListN.{length, take, getD};
 ghost use Rattle.lists.specs.Words.{put};
-ghost use Rattle.copying.specs.Words.{word, words, wordBytes};
+ghost use Rattle.copying.specs.Words.{word, words, wordBytes, fromBytes};
 
 fn wide(x: u8) -> usize
     ensures { λ r. ⌜ (r ≡ x) × (r < 256) ⌝ }
@@ -24,6 +24,19 @@ pub fn word_at(s: &[u8], i: usize) -> usize
     ensures { λ r. ⌜ (r ≡ word (now (s .entry)) i) × (r < 65536) ⌝ }
 {
     wide(s[i]) * 256 + wide(s[i + 1])
+}
+
+// The number that bytes make, highest byte first: its lowest 32 bits, which are all of it for four bytes or fewer.
+pub fn from_bytes(c: &[u8]) -> u32
+    ensures { λ r. ⌜ r ≡ fromBytes (now (c .entry)) % 4294967296 ⌝ }
+{
+    let mut x = 0;
+    let mut i = 0;
+    while i < c.len() {
+        x = x % 16777216 * 256 + wide(c[i]);
+        i += 1;
+    }
+    x as u32
 }
 
 // The numbers of two bytes of c, at the start of out; answers how many.

@@ -2,12 +2,13 @@
 use mathlib.Core.Path.{_≡_, refl, sym, ap, ap₂, _∙_, subst}
 use mathlib.Core.Bool.{Bool}
 use mathlib.Core.List.{List, [], _∷_, _++_}
-use Prim.Native.Nat.{ℕ, _*_}
+use Prim.Native.Nat.{ℕ, _+_, _*_}
 use native.Mathlib.Nat.{add-zero}
 use native.Mathlib.Omega.{arith}
 use lib.ListN.{getD}
 use Rattle.lists.specs.Words.{part}
 use Rattle.lists.proofs.Words.{part-at}
+use Rattle.copying.specs.Words.{word}
 use Rattle.refusal.specs.Answer.{firstOf}
 use Rattle.refusal.proofs.Answers.{None, none}
 use Rattle.refusal.specs.declared.Answer.the-variants.{Done}
@@ -15,8 +16,8 @@ use Rattle.field.specs.declared.Level.{Level}
 use Rattle.key.specs.Key.{Sized, lengths}
 use Rattle.key.proofs.Sized.{sized}
 use Rattle.layout.specs.declared.Row.{Row}
-use Rattle.layout.specs.declared.Kind.the-variants.{Sizes, Elements, Any, Bits, Coordinates}
-use Rattle.layout.specs.Layout.{keySegment, groupSegment, checkSegment, groupEnd, checkEnd, keyTests, packageRows, checkFileRows, packageTests, checkFileTests}
+use Rattle.layout.specs.declared.Kind.the-variants.{Sizes, Elements, Serial, Bits, Coordinates}
+use Rattle.layout.specs.Layout.{serialLength, keySegment, keyEnd, groupSegment, checkSegment, groupEnd, checkEnd, keyTests, packageRows, checkFileRows, packageTests, checkFileTests}
 use Rattle.layout.specs.Tests.{keyAt, keyOf, tests, after, endTests}
 use Rattle.layout.proofs.Rows.{head-passed, tests-append, after-append}
 
@@ -52,7 +53,7 @@ module _ (l : Level) (s : List ℕ) where
   pub package-rows : packageRows l s ≡ sizesRow
       ∷ record { tag = 0x02; len = 2 * lengths l (keyOf s) .matrix; kind = Elements }
       ∷ record { tag = 0x03; len = 2 * lengths l (keyOf s) .vector; kind = Elements }
-      ∷ record { tag = 0x05; len = 2; kind = Any }
+      ∷ record { tag = 0x05; len = serialLength (word s (keyEnd l s + 1)); kind = Serial }
       ∷ record { tag = 0x06; len = lengths l (keyOf s) .bits; kind = Bits }
       ∷ record { tag = 0x07; len = 2 * lengths l (keyOf s) .proof; kind = Coordinates }
       ∷ []

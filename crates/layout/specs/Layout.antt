@@ -1,14 +1,20 @@
 -- The fields of packages and check files, in order: the specification, 'Packages and check files'. A segment is the rows of fields
 -- that stand together; which they are may depend on the key, on the bytes and on the position where the segment starts.
-use mathlib.Core.Bool.{Bool}
+use mathlib.Core.Bool.{Bool, cond}
 use mathlib.Core.List.{List, [], _∷_, _++_}
-use Prim.Native.Nat.{ℕ, _*_}
+use Prim.Native.Nat.{ℕ, _+_, _*_}
+use lib.Dec.{eqb}
+use Rattle.copying.specs.Words.{word}
 use Rattle.field.specs.declared.Level.{Level}
 use Rattle.key.specs.declared.Key.{Key}
 use Rattle.key.specs.Key.{lengths}
 use Rattle.layout.specs.declared.Row.{Row}
-use Rattle.layout.specs.declared.Kind.the-variants.{Sizes, Elements, Any, Bits, Coordinates}
+use Rattle.layout.specs.declared.Kind.the-variants.{Sizes, Elements, Serial, Bits, Coordinates}
 use Rattle.layout.specs.Tests.{keyOf, tests, after, endTests}
+
+-- "Field 05 may have length 2 or 4": a stated length is judged against 4 where it is 4, and any other against 2
+abbrev pub serialLength : ℕ → ℕ
+serialLength stated = cond (eqb stated 4) 4 2
 
 module _ (l : Level) (key : Key) (s : List ℕ) (at : ℕ) where
   -- "01 sizes (n, m, one byte each); 02 H (2mn bytes); 03 x (2n)"
@@ -19,10 +25,10 @@ module _ (l : Level) (key : Key) (s : List ℕ) (at : ℕ) where
       ∷ record { tag = 0x03; len = 2 * lengths l key .vector; kind = Elements }
       ∷ []
 
-  -- "05 serial (2, unsigned, any value); 06 t (nd bytes); 07 a (24d)", 12 coordinates of two bytes each being the level's
+  -- "05 serial (.. unsigned, any value); 06 t (nd bytes); 07 a (24d)", 12 coordinates of two bytes each being the level's
   abbrev pub groupRows : List Row
   groupRows =
-      record { tag = 0x05; len = 2; kind = Any }
+      record { tag = 0x05; len = serialLength (word s (at + 1)); kind = Serial }
       ∷ record { tag = 0x06; len = lengths l key .bits; kind = Bits }
       ∷ record { tag = 0x07; len = 2 * lengths l key .proof; kind = Coordinates }
       ∷ []

@@ -1,11 +1,11 @@
 -- The tests that the readers run on any bytes, and where a field's content stands.
-use mathlib.Core.Bool.{Bool, not, cond}
+use mathlib.Core.Bool.{Bool, not, cond, _&&_}
 use mathlib.Core.List.{List, [], _∷_, _++_}
 use Prim.Native.Nat.{ℕ, _+_, _-_}
 use lib.Dec.{ltb, eqb}
 use lib.ListN.{length, getD}
 use Rattle.lists.specs.Words.{part}
-use Rattle.copying.specs.Words.{word, words}
+use Rattle.copying.specs.Words.{word, words, fromBytes}
 use Rattle.field.specs.declared.Level.{Level}
 use Rattle.field.specs.Word.{within}
 use Rattle.key.specs.declared.Key.{Key}
@@ -13,7 +13,7 @@ use Rattle.key.specs.Key.{sizes, below}
 use Rattle.layout.specs.declared.Row.{Row}
 use Rattle.layout.specs.declared.Part.{Part}
 use Rattle.layout.specs.declared.Kind.{Kind}
-use Rattle.layout.specs.declared.Kind.the-variants.{Sizes, Elements, Any, Bits, Coordinates}
+use Rattle.layout.specs.declared.Kind.the-variants.{Sizes, Elements, Serial, Bits, Coordinates}
 
 -- "n, m, one byte each", at a position
 abbrev pub keyAt : List ℕ → ℕ → Key
@@ -23,11 +23,11 @@ keyAt s at = record { n = getD s at 0; m = getD s (at + 1) 0 }
 abbrev pub keyOf : List ℕ → Key
 keyOf s = keyAt s 3
 
--- P5: "1, 2, 4, 5, 6 .. as above, for the field's content"
+-- P5: "1, 2, 4, 5, 6 .. as above, for the field's content", and "19 when a four-byte serial is below 65,536"
 abbrev pub valueTests : Level → Kind → List ℕ → List (Bool × ℕ)
 valueTests l Sizes c = sizes l (keyAt c 0)
 valueTests l Elements c = (not (within l (words c)), 4) ∷ []
-valueTests l Any c = []
+valueTests l Serial c = (eqb (length c) 4 && ltb (fromBytes c) 65536, 19) ∷ []
 valueTests l Bits c = (not (below 1 c), 5) ∷ []
 valueTests l Coordinates c = (not (within l (words c)), 6) ∷ []
 

@@ -1,16 +1,18 @@
 // The fields of packages and check files of the specification: their rows, the tests of each, and where a content stands.
 ghost use mathlib.Core.Path.{_≡_};
+ghost use mathlib.Core.Bool.{_&&_};
 ghost use mathlib.Core.List.{List, [], _∷_};
 ghost use Prim.Native.Nat.{_+_, _-_, _≤_, _<_};
+ghost use lib.Dec.{ltb, eqb};
 ghost use lib.ListN.{length};
 ghost use Rattle.refusal.specs.Answer.{firstOf};
-ghost use Rattle.copying.specs.Words.{words};
+ghost use Rattle.copying.specs.Words.{word, words, fromBytes};
 ghost use Rattle.field.specs.declared.Level.{Level};
 ghost use Rattle.field.specs.Level.{FIRST, levelAt};
 ghost use Rattle.field.specs.Word.{within};
 ghost use Rattle.key.specs.Key.{Sized};
 ghost use Rattle.layout.specs.declared.Row.{Row};
-ghost use Rattle.layout.specs.Layout.{groupRows, checkRows, keyTests, keyEnd};
+ghost use Rattle.layout.specs.Layout.{serialLength, groupRows, checkRows, keyTests, keyEnd};
 ghost use Rattle.layout.specs.Tests.{keyAt, valueTests, rowTests, endTests, partOf};
 ghost use Rattle.layout.specs.Steps.{Whole, stepped, outcome, further};
 use field::FIRST;
@@ -23,7 +25,7 @@ use refusal::Refusal;
 pub enum Kind {
     Sizes,
     Elements,
-    Any,
+    Serial,
     Bits,
     Coordinates,
 }
@@ -107,6 +109,16 @@ fn words_within(c: &[u8]) -> bool
     true
 }
 
+// Whether a serial has four bytes and would fit two.
+fn long_serial(c: &[u8]) -> bool
+    ensures { λ r. ⌜ r ≡ (eqb (length (now (c .entry))) 4 && ltb (fromBytes (now (c .entry))) 65536) ⌝ }
+{
+    if c.len() != 4 {
+        return false;
+    }
+    copying::from_bytes(c) < 65536
+}
+
 // P5: the first refusal of a content's values that applies.
 fn values(c: &[u8], kind: Kind) -> Answer
     ensures { λ r. ⌜ r ≡ firstOf (valueTests (levelAt FIRST) kind (now (c .entry))) ⌝ }
@@ -120,7 +132,13 @@ fn values(c: &[u8], kind: Kind) -> Answer
                 Answer::Refused(Refusal::KEY_ELEMENT)
             }
         }
-        Kind::Any => Answer::Done,
+        Kind::Serial => {
+            if long_serial(c) {
+                Answer::Refused(Refusal::LONG_SERIAL)
+            } else {
+                Answer::Done
+            }
+        }
         Kind::Bits => {
             if key::over(c, 1) == 0 {
                 Answer::Done
@@ -209,6 +227,20 @@ pub fn read_key(s: &[u8]) -> Step
     read_row(s, read_row(s, sizes, h), x)
 }
 
+// The length that a serial at a position is judged against: 4 where 4 is stated, else 2.
+fn serial_length(s: &[u8], at: usize) -> usize
+    ensures { λ r. ⌜ r ≡ serialLength (word (now (s .entry)) (at + 1)) ⌝ }
+{
+    if left(s, at) < HEAD {
+        return 2;
+    }
+    if copying::word_at(s, at + 1) == 4 {
+        4
+    } else {
+        2
+    }
+}
+
 // The fields from the serial to a, from a position on: where they end, or the refusal.
 pub fn read_group(s: &[u8], key: Key, at: usize) -> Step
     requires { ⌜ Sized (levelAt FIRST) key ⌝ }
@@ -217,8 +249,8 @@ pub fn read_group(s: &[u8], key: Key, at: usize) -> Step
     let len = key.lengths(FIRST);
     let serial = Row {
         tag: Row::SERIAL,
-        len: 2,
-        kind: Kind::Any,
+        len: serial_length(s, at),
+        kind: Kind::Serial,
     };
     let t = Row {
         tag: Row::T,

@@ -1,10 +1,15 @@
 -- What bytes that a reader accepts have: sizes, and rows that end with them.
 use mathlib.Core.Path.{_≡_, refl, sym, ap, subst, _∙_}
+use mathlib.Core.Bool.{Bool, true, false, cond}
 use mathlib.Core.List.{List, [], _∷_, _++_}
-use Prim.Native.Nat.{ℕ, _+_, _≤_}
+use Prim.Native.Nat.{ℕ, _+_, _≤_, _<_}
 use native.Mathlib.Omega.{arith}
 use borrow.Author.Tests.{ltb-false, le-ltb}
-use lib.ListN.{length}
+use lib.Dec.{eqb}
+use lib.ListN.{length, drop, length-take}
+use Rattle.lists.specs.Words.{part}
+use Rattle.copying.specs.Words.{Bytes, word, fromBytes}
+use Rattle.copying.proofs.Bytes.{from-lt, bytes-part}
 use Rattle.refusal.specs.Answer.{firstOf}
 use Rattle.refusal.specs.declared.Answer.{Answer}
 use Rattle.refusal.specs.declared.Answer.the-variants.{Done, Refused}
@@ -12,12 +17,12 @@ use Rattle.refusal.proofs.Answers.{None, none, pass, after-done}
 use Rattle.field.specs.declared.Level.{Level}
 use Rattle.key.specs.Key.{Sized}
 use Rattle.layout.specs.declared.Row.{Row}
-use Rattle.layout.specs.Layout.{packageRows, packageTests, checkFileRows, checkFileTests}
-use Rattle.layout.specs.Tests.{keyOf, tests, after, endTests}
+use Rattle.layout.specs.Layout.{serialLength, keyEnd, packageRows, packageTests, checkFileRows, checkFileTests}
+use Rattle.layout.specs.Tests.{keyOf, tests, after, endTests, partOf}
 use Rattle.layout.specs.Steps.{Whole}
 use Rattle.package.specs.declared.Contents.{Contents}
 use Rattle.package.specs.declared.Read.the-variants.{Fields}
-use Rattle.package.specs.Reading.{Reader, readAs, contentsOf, reading}
+use Rattle.package.specs.Reading.{Reader, readAs, serialOf, contentsOf, reading}
 use Rattle.layout.proofs.Rows.{none-append, none-done, head-passed}
 use Rattle.layout.proofs.Files.{first-sized, package-tests, check-file-tests}
 
@@ -72,8 +77,28 @@ read-accepts reader s e =
     let f = fields-only (firstOf (reader .tests s)) (contentsOf s (reader .rows s)) e in
     (f .0, ap (λ (c : Contents). record { n = c .n; m = c .m }) (sym (f .1)))
 
--- what a function tells of any answer and rows holds of a reader's own
+-- what a function tells of an answer and a reader's rows holds of the reader's own answer
 pub of-reader : {A : Type 0} (l : Level) (reader : Reader) (s : List ℕ) (f : Answer → List Row → A) {r : Answer} {p : A}
     → (firstOf (reader .tests s) ≡ Done → Whole l s (reader .rows s)) → r ≡ firstOf (reader .tests s)
-    → ((l : Level) (rows : List Row) → (r ≡ Done → Whole l s rows) → p ≡ f r rows) → p ≡ f (firstOf (reader .tests s)) (reader .rows s)
-of-reader l reader s f accepts e told = told l (reader .rows s) (λ d. accepts (sym e ∙ d)) ∙ ap (λ a. f a (reader .rows s)) e
+    → ((r ≡ Done → Whole l s (reader .rows s)) → p ≡ f r (reader .rows s)) → p ≡ f (firstOf (reader .tests s)) (reader .rows s)
+of-reader l reader s f accepts e told = told (λ d. accepts (sym e ∙ d)) ∙ ap (λ a. f a (reader .rows s)) e
+
+-- a serial has four bytes at most, so it is below 2^32
+pub serial-most : (stated : ℕ) → serialLength stated ≤ 4
+serial-most stated = pick (eqb stated 4)
+  where
+    pick : (b : Bool) → cond b 4 2 ≤ 4
+    pick true = omega arith
+    pick false = omega arith
+
+pub part-lt : (s : List ℕ) (i n : ℕ) → Bytes s → n ≤ 4 → fromBytes (part i n s) < 4294967296
+part-lt s i n b h = from-lt (part i n s) (bytes-part s i n b) (rw (length-take n (drop i s)) (omega arith))
+
+module _ (l : Level) (s : List ℕ) (b : Bytes s) where
+  pub package-serial : serialOf s (packageRows l s) < 4294967296
+  unfolding packageRows partOf
+  package-serial = part-lt s (partOf 0x05 0 (packageRows l s) .start) _ b (serial-most (word s (keyEnd l s + 1)))
+
+  pub check-file-serial : serialOf s (checkFileRows l s) < 4294967296
+  unfolding packageRows checkFileRows partOf
+  check-file-serial = part-lt s (partOf 0x05 0 (checkFileRows l s) .start) _ b (serial-most (word s (keyEnd l s + 1)))

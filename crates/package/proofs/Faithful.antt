@@ -1,14 +1,11 @@
 -- The laws of any form of file, from those of its segments.
 use mathlib.Core.Path.{_≡_, sym, ap, ap₂, _∙_, subst}
 use mathlib.Core.List.{List, [], _++_, append-nil}
-use Prim.Native.Nat.{ℕ, _+_, _*_, _≤_}
-use native.Mathlib.Nat.{add-zero}
+use Prim.Native.Nat.{ℕ, _≤_}
 use native.Mathlib.Omega.{arith}
-use lib.ListN.{length, getD, drop, length-take, drop-of-length-le}
+use lib.ListN.{length, drop-of-length-le}
 use Rattle.lists.specs.Words.{part}
-use Rattle.lists.proofs.Words.{part-at}
-use Rattle.copying.specs.Words.{Bytes, word, twoBytes}
-use Rattle.copying.proofs.Bytes.{two-word}
+use Rattle.copying.specs.Words.{Bytes, fromBytes}
 use Rattle.refusal.proofs.Answers.{none}
 use Rattle.field.specs.declared.Level.{Level}
 use Rattle.key.specs.declared.Key.{Key}
@@ -18,23 +15,16 @@ use Rattle.layout.specs.Steps.{Whole}
 use Rattle.layout.proofs.Rows.{none-done}
 use Rattle.package.specs.declared.Read.the-variants.{Fields}
 use Rattle.package.specs.Reading.{partIf, readAs, contentsOf, reading}
-use Rattle.package.specs.Written.{joined, contentOf, Form, written, Accepted, handed, Faithful}
+use Rattle.package.specs.Written.{joined, contentOf, serialBytes, Form, written, Accepted, handed, Faithful}
 use Rattle.package.proofs.Joined.{joined-bytes, cut, part-cut, Back, read-back, exact}
+use Rattle.package.proofs.Serial.{from-serial}
 use Rattle.package.proofs.Segments.{SegmentLaws, OpeningLaws}
-
--- a number whose two bytes are a part
-word-part : (s : List ℕ) (i n x : ℕ) → part i n s ≡ twoBytes x → word s i ≡ x
-word-part s i n x e =
-    let long : 2 ≤ n = omega (arith, sym (length-take n (drop i s)) ∙ ap length e) in
-    let high : getD s i 0 ≡ getD (twoBytes x) 0 0 = ap (λ k. getD s k 0) (sym (add-zero i)) ∙ sym (part-at i n s 0 (omega arith)) ∙ ap (λ t. getD t 0 0) e in
-    let low : getD s (i + 1) 0 ≡ getD (twoBytes x) 1 0 = sym (part-at i n s 1 (omega arith)) ∙ ap (λ t. getD t 1 0) e in
-    ap₂ (λ (a b : ℕ). a * 256 + b) high low ∙ two-word x
 
 module _ (l : Level) (form : Form) (table : form .Data → List Row) (rows : List ℕ → ℕ → List Row) (Before : List ℕ → Type 0) where
   -- what a form owes: its fields are a segment from the start on, and it is accepted where their rows refuse nothing and end with it
   pub record FormLaws : Type 0 where
     pub opening : OpeningLaws l (form .fields) (form .Limits) table rows Before (form .key)
-    pub serial : (x : form .Data) → contentOf 0x05 (form .fields x) ≡ twoBytes (form .serial x)
+    pub serial : (x : form .Data) → contentOf 0x05 (form .fields x) ≡ serialBytes (form .serial x)
     pub last : Before []
     pub told : (s : List ℕ) → form .reader .rows s ≡ rows s 0
     pub whole : (s : List ℕ) → Accepted form s → Whole l s (form .reader .rows s)
@@ -74,8 +64,7 @@ module _ (l : Level) (form : Form) (table : form .Data → List Row) (rows : Lis
     read-written : (x : form .Data) → form .Limits x → reading (form .reader) (written form x) ≡ Fields (record { n = form .key x .n; m = form .key x .m; serial = form .serial x })
     read-written x v =
         let t = form .reader .rows (written form x) in
-        let p = partOf 0x05 0 t in
-        let serial = word-part (written form x) (p .start) (p .len) (form .serial x) (content-of x v 0x05 ∙ f .serial x) in
+        let serial = ap fromBytes (content-of x v 0x05 ∙ f .serial x) ∙ from-serial (form .serial x) in
         ap (λ a. readAs a (contentsOf (written form x) t)) (written-accepted x v)
         ∙ ap₂ (λ (key : Key) (k : ℕ). Fields (record { n = key .n; m = key .m; serial = k })) (starts x v) serial
 

@@ -6,11 +6,11 @@ use Prim.Native.Nat.{ℕ, zero, suc, _+_, _*_, _<_}
 use native.Mathlib.Nat.{add-assoc}
 use native.Mathlib.Omega.{arith}
 use borrow.Author.Tests.{lt-leb, le-ltb, ne-eqb, not-false}
-use lib.ListN.{length}
+use lib.ListN.{length, drop}
 use lib.Seq.{getD-append-add}
 use Rattle.lists.specs.Words.{part}
-use Rattle.copying.specs.Words.{Bytes, word, words, wordBytes}
-use Rattle.copying.proofs.Bytes.{words-bytes, bytes-length, words-length, bytes-words, two-word, word-two, word-lt, two-bytes, word-bytes}
+use Rattle.copying.specs.Words.{Bytes, word, words, wordBytes, fromBytes}
+use Rattle.copying.proofs.Bytes.{words-bytes, bytes-length, words-length, bytes-words, word-bytes}
 use Rattle.refusal.proofs.Answers.{None}
 use Rattle.field.specs.declared.Level.{Level}
 use Rattle.field.specs.Level.{FIRST, levelAt}
@@ -21,14 +21,15 @@ use Rattle.key.proofs.Sized.{sized}
 use Rattle.key.proofs.Fine.{within-le, below-lt}
 use Rattle.layout.specs.declared.Row.{Row}
 use Rattle.layout.specs.declared.Kind.{Kind}
-use Rattle.layout.specs.declared.Kind.the-variants.{Elements, Coordinates}
-use Rattle.layout.specs.Layout.{keyRows, groupRows, checkRows, packageRows, checkFileRows}
+use Rattle.layout.specs.declared.Kind.the-variants.{Elements, Serial, Coordinates}
+use Rattle.layout.specs.Layout.{serialLength, keyRows, groupRows, checkRows, packageRows, checkFileRows}
 use Rattle.layout.specs.Tests.{keyAt, keyOf, valueTests, after}
 use Rattle.layout.proofs.Files.{key-part, package-end}
 use Rattle.layout.proofs.Bounds.{bounds}
-use Rattle.package.specs.Written.{joined, contentOf, KeyData, Group, Check, keyFields, groupFields, checkFields, Within, ValidKey, ValidGroup, ValidCheck, packageForm, checkForm, Faithful}
-use Rattle.package.proofs.Accepted.{package-whole, package-passes, check-file-whole, check-file-passes}
-use Rattle.package.proofs.Joined.{Fit, Fits, AllBytes, cut, content-bytes, cut-fits}
+use Rattle.package.specs.Written.{joined, contentOf, serialBytes, KeyData, Group, Check, keyFields, groupFields, checkFields, Within, ValidKey, ValidGroup, ValidCheck, packageForm, checkForm, Faithful}
+use Rattle.package.proofs.Accepted.{serial-most, part-lt, package-whole, package-passes, check-file-whole, check-file-passes}
+use Rattle.package.proofs.Joined.{Fit, Fits, AllBytes, cut, content-bytes, next-len, cut-fits}
+use Rattle.package.proofs.Serial.{from-serial, serial-short, serial-bytes, serial-judged, serial-passes, serial-of}
 use Rattle.package.proofs.Segments.{SegmentLaws, OpeningLaws, followed}
 use Rattle.package.proofs.Faithful.{FormLaws, faithful}
 
@@ -171,27 +172,42 @@ key-laws = record {
   told = λ s b at e. refl;
 }
 
--- the fields of a group
+-- the fields of a group, whose first row its own bytes tell
 abbrev groupTable : Key → Group → List Row
-groupTable key g = groupRows (levelAt FIRST) key [] 0
+groupTable key g = groupRows (levelAt FIRST) key (joined (groupFields g)) 0
 
 unpackGroup : List (ℕ × List ℕ) → Group
 unpackGroup fields = record {
-  serial = word (contentOf 0x05 fields) 0;
+  serial = fromBytes (contentOf 0x05 fields);
   t = contentOf 0x06 fields;
   a = words (contentOf 0x07 fields);
 }
 
 group-packed : (g : Group) → unpackGroup (groupFields g) ≡ g
 unfolding unpackGroup contentOf
-group-packed g = rw (two-word (g .serial), words-bytes (g .a))
+group-packed g = rw (from-serial (g .serial), words-bytes (g .a))
+
+-- the length that is stated of the serial, where a group stands and in the group alone
+stated : (pre rest : List ℕ) (g : Group) → word (pre ++ (joined (groupFields g) ++ rest)) (length pre + 1) ≡ length (serialBytes (g .serial))
+unfolding joined
+stated pre rest g = next-len pre 0x05 (length (serialBytes (g .serial))) _ (serial-short (g .serial))
+
+stated-alone : (g : Group) → word (joined (groupFields g)) 1 ≡ length (serialBytes (g .serial))
+unfolding joined
+stated-alone g = next-len [] 0x05 (length (serialBytes (g .serial))) (serialBytes (g .serial) ++ joined (drop 1 (groupFields g))) (serial-short (g .serial))
 
 module _ (key : Key) where
   group-fits : Sized (levelAt FIRST) key → (g : Group) → ValidGroup (levelAt FIRST) key g → Fits (levelAt FIRST) (groupTable key g) (groupFields g)
   group-fits h g v =
       let l = levelAt FIRST in
+      let judged : serialLength (word (joined (groupFields g)) 1) ≡ length (serialBytes (g .serial)) = ap serialLength (stated-alone g) ∙ serial-judged (g .serial) in
       let b = bounds key h in (
-        record { tag = refl; len = refl; short = omega arith; values = tt },
+        record {
+          tag = refl;
+          len = sym judged;
+          short = omega (arith, serial-short (g .serial), judged);
+          values = serial-passes l (g .serial);
+        },
         (
           record { tag = refl; len = v .t .0; short = omega (arith, b .bits); values = (ap not (v .t .1), tt) },
           (fit-words l 0x07 _ Coordinates (g .a) (omega (arith, b .proof)) (v .a) (test-coordinates l), tt),
@@ -201,7 +217,7 @@ module _ (key : Key) where
   group-bytes : (g : Group) → ValidGroup (levelAt FIRST) key g → AllBytes (groupFields g)
   group-bytes g v = (
     omega arith,
-    two-bytes (g .serial) (v .serial),
+    serial-bytes (g .serial) (v .serial),
     (
       omega arith,
       λ i. omega (arith, below-lt 1 (g .t) (v .t .1) i),
@@ -218,7 +234,7 @@ module _ (key : Key) where
     group-valid w =
         let f = w .1 in
         record {
-          serial = word-lt (contentOf 0x05 groupFound) 0 (content-bytes s b 0x05 at (groupRows (levelAt FIRST) key s at));
+          serial = part-lt s (at + 3) _ b (serial-most (word s (at + 1)));
           t = (f .0 .len, not-false _ (f .0 .values .0));
           a = (words-length _ _ (f .1 .0 .len), not-false _ (f .1 .0 .values .0));
         }
@@ -229,7 +245,7 @@ module _ (key : Key) where
         let c : (tag : ℕ) → List ℕ = λ tag. contentOf tag groupFound in
         let all : (tag : ℕ) → Bytes (c tag) = λ tag. content-bytes s b tag at (groupRows (levelAt FIRST) key s at) in
         let f = w .1 in
-        same 0x05 (word-two (c 0x05) (all 0x05) (w .0 .len))
+        same 0x05 (serial-of (levelAt FIRST) (word s (at + 1)) (c 0x05) (all 0x05) (w .0 .len) (w .0 .values))
         (same 0x06 refl
         (same 0x07 (bytes-words (c 0x07) _ (all 0x07) (f .1 .0 .len)) refl))
 
@@ -237,7 +253,7 @@ module _ (key : Key) where
   group-laws h = record {
     fits = group-fits h;
     bytes = group-bytes;
-    there = λ pre rest m g v. refl;
+    there = λ pre rest m g v. ap (λ (k : ℕ). record { tag = 0x05; len = serialLength k; kind = Serial } ∷ drop 1 (groupRows (levelAt FIRST) key [] 0)) (stated pre rest g ∙ sym (stated-alone g));
     read = λ s b at e. let w = cut-fits (levelAt FIRST) s b at (groupRows (levelAt FIRST) key s at) e in (unpackGroup (groupFound s b at), group-valid s b at w, group-found s b at w);
     single = λ x y v w e. sym (group-packed x) ∙ ap unpackGroup e ∙ group-packed y;
   }

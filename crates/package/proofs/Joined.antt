@@ -85,15 +85,15 @@ pub content-bytes : (s : List ℕ) → Bytes s → (tag at : ℕ) (rows : List R
 content-bytes s b tag at rows = subst Bytes (part-cut s tag at rows) (bytes-part s (partOf tag at rows .start) (partOf tag at rows .len) b)
 
 -- the tag and the stated length of the field that stands where other bytes end
-module _ (pre : List ℕ) (tag : ℕ) (c rest : List ℕ) where
-  pub next-tag : getD (pre ++ ((tag ∷ twoBytes (length c)) ++ c ++ rest)) (length pre) 0 ≡ tag
-  next-tag = getD-append-seam pre tag (twoBytes (length c) ++ c ++ rest) 0
+module _ (pre : List ℕ) (tag n : ℕ) (rest : List ℕ) where
+  pub next-tag : getD (pre ++ (tag ∷ twoBytes n ++ rest)) (length pre) 0 ≡ tag
+  next-tag = getD-append-seam pre tag (twoBytes n ++ rest) 0
 
-  pub next-len : length c < 65536 → word (pre ++ ((tag ∷ twoBytes (length c)) ++ c ++ rest)) (length pre + 1) ≡ length c
+  pub next-len : n < 65536 → word (pre ++ (tag ∷ twoBytes n ++ rest)) (length pre + 1) ≡ n
   next-len h =
-      let s = pre ++ ((tag ∷ twoBytes (length c)) ++ c ++ rest) in
-      let high : getD s (length pre + 1) 0 ≡ length c / 256 = getD-append-add pre ((tag ∷ twoBytes (length c)) ++ c ++ rest) 1 0 in
-      let low : getD s (length pre + 1 + 1) 0 ≡ length c % 256 = rw add-assoc (getD-append-add pre ((tag ∷ twoBytes (length c)) ++ c ++ rest) 2 0) in
+      let s = pre ++ (tag ∷ twoBytes n ++ rest) in
+      let high : getD s (length pre + 1) 0 ≡ n / 256 = getD-append-add pre (tag ∷ twoBytes n ++ rest) 1 0 in
+      let low : getD s (length pre + 1 + 1) 0 ≡ n % 256 = rw add-assoc (getD-append-add pre (tag ∷ twoBytes n ++ rest) 2 0) in
       omega arith
 
 -- a field written after other bytes
@@ -120,8 +120,8 @@ module _ (l : Level) (pre : List ℕ) (row : Row) (tag : ℕ) (c rest : List ℕ
       let body = length-append c rest in
       let len = w .len in
       let short = w .short in
-      let word-len : word whole (length pre + 1) ≡ row .len = next-len pre tag c rest (omega arith) ∙ len in
-      (le-ltb (length whole - length pre) 3 (omega arith), (ap not (eq-eqb _ _ (next-tag pre tag c rest ∙ w .tag)), (ap not (eq-eqb _ _ word-len), (le-ltb (length whole - (length pre + 3)) (row .len) (omega arith), subst (λ b. None (valueTests l (row .kind) b)) (sym content-there) (w .values)))))
+      let word-len : word whole (length pre + 1) ≡ row .len = next-len pre tag (length c) (c ++ rest) (omega arith) ∙ len in
+      (le-ltb (length whole - length pre) 3 (omega arith), (ap not (eq-eqb _ _ (next-tag pre tag (length c) (c ++ rest) ∙ w .tag)), (ap not (eq-eqb _ _ word-len), (le-ltb (length whole - (length pre + 3)) (row .len) (omega arith), subst (λ b. None (valueTests l (row .kind) b)) (sym content-there) (w .values)))))
 
 -- tags and contents of bytes
 abbrev pub AllBytes : List (ℕ × List ℕ) → Type 0

@@ -1,5 +1,6 @@
 pub mod Accepted
 pub mod Joined
+pub mod Serial
 pub mod Segments
 pub mod Faithful
 pub mod Forms

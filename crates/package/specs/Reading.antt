@@ -5,7 +5,7 @@ use mathlib.Core.Path.{_≡_}
 use Prim.Native.Nat.{ℕ, _+_}
 use denote.Ref.{RefT, ptr, now}
 use Rattle.lists.specs.Words.{part}
-use Rattle.copying.specs.Words.{word}
+use Rattle.copying.specs.Words.{fromBytes}
 use Rattle.refusal.specs.Answer.{firstOf}
 use Rattle.refusal.specs.declared.Answer.{Answer}
 use Rattle.refusal.specs.declared.Answer.the-variants as answer
@@ -43,9 +43,13 @@ packageReader l = record { rows = packageRows l; tests = packageTests l }
 abbrev pub checkFileReader : Level → Reader
 checkFileReader l = record { rows = checkFileRows l; tests = checkFileTests l }
 
+-- the serial of bytes with these fields: the number that the content of field 05 makes, "highest byte first"
+abbrev pub serialOf : List ℕ → List Row → ℕ
+serialOf s rows = let p = partOf 0x05 0 rows in fromBytes (part (p .start) (p .len) s)
+
 -- n, m and the serial of bytes with these fields
 abbrev pub contentsOf : List ℕ → List Row → Contents
-contentsOf s rows = record { n = keyOf s .n; m = keyOf s .m; serial = word s (partOf 0x05 0 rows .start) }
+contentsOf s rows = record { n = keyOf s .n; m = keyOf s .m; serial = serialOf s rows }
 
 module _ (reader : Reader) (s : List ℕ) where
   -- "read package and read check file (answer n, m and the serial, or a refusal)"

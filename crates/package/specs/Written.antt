@@ -3,9 +3,9 @@ use mathlib.Core.Path.{_≡_}
 use mathlib.Core.Bool.{true, cond}
 use mathlib.Core.List.{List, [], _∷_, _++_}
 use Prim.Native.Nat.{ℕ, _<_}
-use lib.Dec.{eqb}
+use lib.Dec.{eqb, ltb}
 use lib.ListN.{length}
-use Rattle.copying.specs.Words.{Bytes, twoBytes, wordBytes}
+use Rattle.copying.specs.Words.{Bytes, twoBytes, fourBytes, wordBytes}
 use Rattle.field.specs.declared.Level.{Level}
 use Rattle.field.specs.Word.{within}
 use Rattle.key.specs.declared.Key.{Key}
@@ -25,6 +25,10 @@ joined ((tag, c) ∷ fields) = (tag ∷ twoBytes (length c)) ++ c ++ joined fiel
 unfoldable pub contentOf : ℕ → List (ℕ × List ℕ) → List ℕ
 contentOf tag [] = []
 contentOf tag ((g, c) ∷ fields) = cond (eqb g tag) c (contentOf tag fields)
+
+-- "Serials that fit two bytes are still written in two", and all others in four
+abbrev pub serialBytes : ℕ → List ℕ
+serialBytes x = cond (ltb x 65536) (twoBytes x) (fourBytes x)
 
 -- what the key's fields say: the lists of elements are words
 pub record KeyData : Type 0 where
@@ -54,7 +58,7 @@ keyFields k =
 
 abbrev pub groupFields : Group → List (ℕ × List ℕ)
 groupFields g =
-    (0x05, twoBytes (g .serial))
+    (0x05, serialBytes (g .serial))
     ∷ (0x06, g .t)
     ∷ (0x07, wordBytes (g .a))
     ∷ []
@@ -78,7 +82,7 @@ pub record ValidKey (l : Level) (k : KeyData) : Type 0 where
   pub x : Within l (lengths l (k .sizes) .vector) (k .x)
 
 pub record ValidGroup (l : Level) (key : Key) (g : Group) : Type 0 where
-  pub serial : g .serial < 65536
+  pub serial : g .serial < 4294967296
   pub t : (length (g .t) ≡ lengths l key .bits) × (below 1 (g .t) ≡ true)
   pub a : Within l (lengths l key .proof) (g .a)
 

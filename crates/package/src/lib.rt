@@ -1,7 +1,7 @@
 // Packages and check files of the specification: the readers, and the field of a package.
 ghost use mathlib.Core.Path.{_≡_};
 ghost use mathlib.Core.List.{List, _++_};
-ghost use Prim.Native.Nat.{_+_, _≤_};
+ghost use Prim.Native.Nat.{_+_, _≤_, _<_};
 ghost use lib.ListN.{length};
 ghost use Rattle.refusal.specs.Answer.{firstOf};
 ghost use Rattle.refusal.specs.declared.Answer.the-variants.{Done};
@@ -11,7 +11,7 @@ ghost use Rattle.layout.specs.declared.Row.{Row};
 ghost use Rattle.layout.specs.Layout.{keyTests, groupTests, groupEnd, packageTests, checkFileTests};
 ghost use Rattle.layout.specs.Tests.{partOf};
 ghost use Rattle.layout.specs.Steps.{Whole, stepped};
-ghost use Rattle.package.specs.Reading.{numberOf, readAs, partIf, contentsOf, packageReader, checkFileReader, reading, fieldPart, IsPart};
+ghost use Rattle.package.specs.Reading.{numberOf, readAs, partIf, serialOf, contentsOf, packageReader, checkFileReader, reading, fieldPart, IsPart};
 use layout::Part;
 use layout::Row;
 use layout::Step;
@@ -82,19 +82,17 @@ fn check_file(bytes: &[u8]) -> Answer
 
 // n, m and the serial of bytes for which a reader has this answer, or its refusal.
 fn read_as(bytes: &[u8], answer: Answer) -> Read
-    ensures { λ r. ⌜ ((l : Level) (rows : List Row) → (answer ≡ Done → Whole l (now (bytes .entry)) rows) → r ≡ readAs answer (contentsOf (now (bytes .entry)) rows)) ⌝ }
+    ensures { λ r. ⌜ ((l : Level) (rows : List Row) → (answer ≡ Done → Whole l (now (bytes .entry)) rows) → serialOf (now (bytes .entry)) rows < 4294967296 → r ≡ readAs answer (contentsOf (now (bytes .entry)) rows)) ⌝ }
 {
     match answer {
         Answer::Refused(refusal) => Read::Refused(refusal),
         Answer::Done => {
             let key = layout::key_at(bytes, layout::HEAD);
-            let start = layout::find(bytes, Row::SERIAL).start;
-            let high = copying::byte_at(bytes, start);
-            let low = copying::byte_at(bytes, start + 1);
+            let serial = content(bytes, Row::SERIAL);
             Read::Fields(Contents {
                 n: key.n,
                 m: key.m,
-                serial: (high * 256 + low) as u32,
+                serial: copying::from_bytes(serial),
             })
         }
     }

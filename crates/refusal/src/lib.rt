@@ -33,6 +33,8 @@ impl Refusal {
     pub const FIELD_LENGTH: Refusal = Refusal { number: 11 };
     // bytes follow the last field
     pub const BYTES_FOLLOW: Refusal = Refusal { number: 12 };
+    // a four-byte serial is below 65,536
+    pub const LONG_SERIAL: Refusal = Refusal { number: 19 };
 }
 
 // What an entry that writes its results answers.

@@ -4,11 +4,11 @@
 use crate::entries::check::{changeable, changed, honest, Check};
 use crate::entries::files::damage::{damaged_file, Pool};
 use crate::entries::files::faults::{faulty, spots};
-use crate::entries::files::fields::{any_serial, content_mut, serial_content};
+use crate::entries::files::fields::{any_serial, serial_field, serials_about_powers, set_serial};
 use crate::entries::files::REFUSALS;
 use crate::entries::keyed;
 use crate::kinds::Kind;
-use reference::package::{join, tag};
+use reference::package::join;
 use reference::perkcheck::LIMIT;
 use reference::samples::Generator;
 use std::io::{ErrorKind, Read, Write};
@@ -75,10 +75,15 @@ const HONEST: Group = Group {
             let m = keyed::some_m(n, generator)[n % 3];
             let mut fields = honest(n, m, Kind::Random, generator);
             for _ in 0..if n < 10 { 20 } else { 1 } {
-                let serial = serial_content(any_serial(generator));
-                *content_mut(&mut fields, tag::SERIAL) = serial;
+                set_serial(&mut fields, serial_field(any_serial(generator)));
                 each(generator, closed(join(&fields)));
             }
+        }
+        // Every number of digits.
+        let mut fields = honest(2, 1, Kind::Random, generator);
+        for serial in serials_about_powers() {
+            set_serial(&mut fields, serial_field(serial));
+            each(generator, closed(join(&fields)));
         }
     },
 };

@@ -5,14 +5,18 @@ mod common;
 
 use common::{case, entry, passes, right, ALL, INPUT};
 use comparison::case::{decided, Case, Entry, Group, Least, Rows, Table};
-use comparison::entries::files::faults::{faulty, spots};
-use comparison::entries::files::fields::any_fields;
+use comparison::entries::check;
+use comparison::entries::files::faults::{faulty, other_length, spots};
+use comparison::entries::files::fields::{
+    any_fields, any_serial, content_of, serial_field, serials_about_powers, set_serial,
+};
 use comparison::entries::readers::ReadCheckFile;
 use comparison::entries::{constraints, faults, keyed};
 use comparison::kinds::Kind;
 use comparison::named::Named;
 use comparison::run::Run;
 use comparison::slices::{H, M, N};
+use reference::package::{join, tag};
 use reference::samples::{independent, Generator};
 use reference::Refusal;
 
@@ -227,5 +231,60 @@ fn every_fault_of_a_file_has_its_answer() {
         let (bytes, number) = faulty::<ReadCheckFile>(&fields, &[spot], generator);
         let found = reference::read_check_file(&bytes);
         assert_eq!(found.map_err(Refusal::number).err(), Some(number));
+    }
+}
+
+#[test]
+fn serials_of_both_lengths() {
+    let generator = &mut Generator::new(1);
+    let mut serials: Vec<u32> = (0..1_000).map(|_| any_serial(generator)).collect();
+    let long = serials.iter().filter(|&&serial| serial > 65_535).count();
+    assert!((300..700).contains(&long), "{long} of four bytes");
+    serials.sort_unstable();
+    serials.dedup();
+    assert!(serials.len() > 800);
+    let about_powers = serials_about_powers();
+    for serial in [
+        0,
+        1,
+        9,
+        10,
+        65_535,
+        65_536,
+        65_537,
+        999_999_999,
+        1_000_000_000,
+    ] {
+        assert!(about_powers.contains(&serial), "{serial}");
+    }
+    assert!(about_powers.contains(&u32::MAX));
+}
+
+#[test]
+fn other_lengths_of_a_serial() {
+    let generator = &mut Generator::new(1);
+    for serial in [7, 65_536] {
+        let field = serial_field(serial);
+        for _ in 0..10_000 {
+            let length = other_length(&field, generator);
+            assert!(length != 2 && length != 4);
+        }
+    }
+}
+
+#[test]
+fn a_changed_serial_is_right() {
+    let generator = &mut Generator::new(1);
+    let mut fields = any_fields(2, 1, generator);
+    for serial in [0, 65_535, 65_536, 131_072, u32::MAX] {
+        set_serial(&mut fields, serial_field(serial));
+        for _ in 0..200 {
+            let (other, _) = check::changed(&fields, tag::SERIAL, generator);
+            assert_ne!(
+                content_of(&other, tag::SERIAL),
+                content_of(&fields, tag::SERIAL)
+            );
+            assert!(reference::read_check_file(&join(&other)).is_ok());
+        }
     }
 }

@@ -15,6 +15,9 @@ const N: usize = 64;
 const M: usize = 27;
 const D: usize = perk::digits(N);
 
+/// Above 65535, so that it takes four bytes; a smaller one takes two.
+const SERIAL: u32 = 3_000_004_711;
+
 /// A generator of test numbers (xorshift); no source of secrets.
 struct Generator(u64);
 
@@ -84,6 +87,14 @@ fn line(a: &[u16], delta: &[u16], b: &[u16]) -> Result<[u16; WORDS], Refusal> {
 /// The bytes of words, highest first.
 fn bytes(words: &[u16]) -> Vec<u8> {
     words.iter().flat_map(|word| word.to_be_bytes()).collect()
+}
+
+/// The bytes of a serial, highest first: two where it fits them, else four.
+fn serial_bytes(serial: u32) -> Vec<u8> {
+    match u16::try_from(serial) {
+        Ok(short) => short.to_be_bytes().to_vec(),
+        Err(_) => serial.to_be_bytes().to_vec(),
+    }
 }
 
 /// A field: tag, length, content.
@@ -173,7 +184,7 @@ fn main() -> Result<(), Refusal> {
         field(0x01, &[N as u8, M as u8]),
         field(0x02, &bytes(&h)),
         field(0x03, &bytes(&x)),
-        field(0x05, &bytes(&[1234])),
+        field(0x05, &serial_bytes(SERIAL)),
         field(0x06, &t),
         field(0x07, &bytes(&a)),
         field(0x11, &bytes(&q)),
@@ -192,6 +203,7 @@ fn main() -> Result<(), Refusal> {
         "package of {} bytes: serial {serial} n {n} m {m}",
         package.len()
     );
+    assert_eq!(perk::field(package, 0x05), SERIAL.to_be_bytes());
     assert_eq!(perk::field(package, 0x06), t);
     assert_eq!(perk::field(package, 0x07), bytes(&a));
 

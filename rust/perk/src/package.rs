@@ -13,7 +13,7 @@ pub struct Contents {
     pub n: usize,
     /// The number of rows of H, 1 to n - 1.
     pub m: usize,
-    /// The serial, 0 to 65535.
+    /// The serial, any number of 32 bits.
     pub serial: u32,
 }
 
@@ -38,17 +38,20 @@ fn read(reader: Reader, bytes: &[u8]) -> Result<Contents, Refusal> {
 /// The sizes and the serial of a package. `bytes` may have any length.
 ///
 /// A field is a tag of one byte, a length of two bytes and the content; numbers
-/// of two bytes are highest byte first, and tags are hexadecimal. A package has
-/// exactly these fields, in this order:
+/// are highest byte first, and tags are hexadecimal. A package has exactly these
+/// fields, in this order:
 ///
 /// | Tag | Content | Bytes |
 /// |---|---|---|
 /// | 01 | n, m | 2 |
 /// | 02 | H | 2 m n |
 /// | 03 | x | 2 n |
-/// | 05 | the serial, any value | 2 |
+/// | 05 | the serial, 0 to 4294967295 | 2 or 4 |
 /// | 06 | t | n d |
 /// | 07 | a | 24 d |
+///
+/// A serial takes two bytes where it fits them, up to 65535, and four otherwise.
+/// It has no other form, and so no package has two.
 ///
 /// # Errors
 ///
@@ -57,11 +60,11 @@ fn read(reader: Reader, bytes: &[u8]) -> Result<Contents, Refusal> {
 /// - [`Refusal::BytesMissing`], where fewer than 3 bytes remain for tag and
 ///   length;
 /// - [`Refusal::Tag`];
-/// - [`Refusal::FieldLength`], where the length is not the one stated above;
+/// - [`Refusal::FieldLength`], where the length is not one stated above;
 /// - [`Refusal::BytesMissing`], where fewer bytes remain than the length;
 /// - of the content [`Refusal::SizeN`] and [`Refusal::SizeM`] (01),
-///   [`Refusal::KeyElement`] (02, 03), [`Refusal::Bit`] (06),
-///   [`Refusal::Coordinate`] (07).
+///   [`Refusal::KeyElement`] (02, 03), [`Refusal::LongSerial`] (05),
+///   [`Refusal::Bit`] (06), [`Refusal::Coordinate`] (07).
 ///
 /// After the last field [`Refusal::BytesFollow`].
 pub fn read_package(bytes: &[u8]) -> Result<Contents, Refusal> {

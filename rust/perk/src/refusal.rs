@@ -34,15 +34,17 @@ pub enum Refusal {
     BytesMissing = 9,
     /// 10: a tag is not the one that comes next.
     Tag = 10,
-    /// 11: a field's length is not the one stated for it.
+    /// 11: a field's length is not one stated for it.
     FieldLength = 11,
     /// 12: bytes follow the last field.
     BytesFollow = 12,
+    /// 19: a serial of four bytes is below 65536, so that it fits two.
+    LongSerial = 19,
 }
 
 impl Refusal {
     /// All refusals, in the order of their numbers.
-    pub const ALL: [Refusal; 12] = [
+    pub const ALL: [Refusal; 13] = [
         Refusal::SizeN,
         Refusal::SizeM,
         Refusal::SliceLength,
@@ -55,9 +57,10 @@ impl Refusal {
         Refusal::Tag,
         Refusal::FieldLength,
         Refusal::BytesFollow,
+        Refusal::LongSerial,
     ];
 
-    /// Its number, 1 to 12, which the C function returns.
+    /// Its number, 1 to 12 or 19, which the C function returns.
     pub const fn number(self) -> u32 {
         self as u32
     }
@@ -91,8 +94,9 @@ impl fmt::Display for Refusal {
             }
             Refusal::BytesMissing => "the bytes end before a field is complete",
             Refusal::Tag => "a tag is not the one that comes next",
-            Refusal::FieldLength => "a field's length is not the one stated for it",
+            Refusal::FieldLength => "a field's length is not one stated for it",
             Refusal::BytesFollow => "bytes follow the last field",
+            Refusal::LongSerial => "a serial of four bytes is below 65536, so that it fits two",
         })
     }
 }

@@ -146,14 +146,35 @@ fn declarations_agree() {
     }
 }
 
+/// The header's names of numbers.
+fn names() -> BTreeMap<String, u32> {
+    let code = without_comments();
+    let lines = code.lines().filter_map(|line| {
+        let (name, number) = line.strip_prefix("#define ")?.split_once(' ')?;
+        Some((name.into(), number.trim().parse().ok()?))
+    });
+    lines.collect()
+}
+
 #[test]
 fn texts_agree() {
+    let names = names();
     let code = without_comments();
-    let (_, table) = code.split_once("texts[] = {").expect("the texts");
-    let (table, _) = table.split_once('}').expect("their end");
-    let texts: Vec<&str> = table.split('"').skip(1).step_by(2).collect();
-    assert_eq!(texts.len(), 1 + Refusal::ALL.len());
+    let (_, texts) = code.split_once("switch (number) {").expect("the texts");
+    let (texts, _) = texts.split_once("default:").expect("their end");
+    let texts: BTreeMap<u32, &str> = texts
+        .split("case ")
+        .skip(1)
+        .map(|case| {
+            let (name, text) = case.split_once(": return \"").expect("a text");
+            let (text, _) = text.split_once('"').expect("its end");
+            (names[name], text)
+        })
+        .collect();
+    // those of the refusals, of done and of rejected
+    assert_eq!(texts.len(), Refusal::ALL.len() + 2);
+    assert_eq!(texts[&names["PERK_REJECTED"]], "rejected");
     for refusal in Refusal::ALL {
-        assert_eq!(texts[refusal.number() as usize], refusal.to_string());
+        assert_eq!(texts[&refusal.number()], refusal.to_string());
     }
 }

@@ -124,7 +124,7 @@ fn a_package_begins_its_check_file() {
     assert_eq!(found.as_ptr(), file.as_ptr());
     let largest = include_bytes!("../../../crates/perkcheck_cases/data/largest");
     let found = package_of(largest).expect("an accepted check file");
-    assert_eq!(found.len(), 18 + 2 + 8064 + 128 + 2 + 64 * 6 + 24 * 6);
+    assert_eq!(found.len(), 18 + 2 + 8064 + 128 + 4 + 64 * 6 + 24 * 6);
     assert_eq!(read_package(found), read_check_file(largest));
 }
 
@@ -149,6 +149,7 @@ fn the_package_ends_at_the_head_of_q() {
         (0x02, "02 0004 0111 0030"),
         (0x03, "03 0004 0011 0011"),
         (0x05, "05 0002 1111"),
+        (0x05, "05 0004 1100 0411"),
         (0x07, "07 0018 0111 0.."),
     ] {
         let file = check_file(&[(tag, text)]);
@@ -183,16 +184,88 @@ fn an_absent_tag_has_no_content() {
 
 #[test]
 fn any_serial_is_read() {
-    for serial in [0, 1, 255, 256, 65535] {
-        let replaced = format!("05 0002 {serial:04x}");
+    for (serial, text) in [
+        (0, "05 0002 0000"),
+        (1, "05 0002 0001"),
+        (255, "05 0002 00ff"),
+        (256, "05 0002 0100"),
+        (65535, "05 0002 ffff"),
+        (65536, "05 0004 0001 0000"),
+        (65537, "05 0004 0001 0001"),
+        (16909060, "05 0004 0102 0304"),
+        (16777216, "05 0004 0100 0000"),
+        (4294967295, "05 0004 ffff ffff"),
+    ] {
         let contents = Contents { serial, ..KEY_A };
-        let package = package(&[(0x05, &replaced)]);
+        let package = package(&[(0x05, text)]);
         assert_eq!(read_package(&package), Ok(contents));
-        assert_eq!(field(&package, 0x05), (serial as u16).to_be_bytes());
-        let file = check_file(&[(0x05, &replaced)]);
+        assert_eq!(field(&package, 0x05), &bytes(text)[3..]);
+        // the fields about it stand before and after
+        assert_eq!(field(&package, 0x03), &bytes(of_key_a(0x03))[3..]);
+        assert_eq!(field(&package, 0x06), &bytes(of_key_a(0x06))[3..]);
+        let file = check_file(&[(0x05, text)]);
         assert_eq!(read_check_file(&file), Ok(contents));
         assert_eq!(check(&file), Ok(Verdict::Accepted));
+        assert_eq!(package_of(&file), Ok(&package[..]));
     }
+}
+
+// A number that fits two bytes has no form of four.
+#[test]
+fn a_small_serial_in_four_bytes() {
+    for serial in ["0000", "0001", "0007", "00ff", "0100", "8000", "ffff"] {
+        let text = &format!("05 0004 0000 {serial}");
+        refused(&[(0x05, text)], 19);
+        // before every fault of a later field
+        for later in ["ff 0002 0101", "06 0003 0101", "06 0002 0201", "", "06"] {
+            refused(&[(0x05, text), (0x06, later)], 19);
+        }
+        refused(&[(0x05, text), (0x07, "07 0018 0800 0..")], 19);
+        refused(&[(0x05, text), (0x14, "14 0048 0800 0.. 0..")], 19);
+        // before bytes that follow
+        package_refused(&[&package(&[(0x05, text)])[..], &[0]].concat(), 19);
+        check_file_refused(&[&check_file(&[(0x05, text)])[..], &[0]].concat(), 19);
+        // after every fault of an earlier field, and of tag and length
+        refused(&[(0x05, text), (0x01, "01 0002 0101")], 1);
+        refused(&[(0x05, text), (0x01, "01 0002 0202")], 2);
+        refused(&[(0x05, text), (0x02, "02 0004 0800 0001")], 4);
+        refused(&[(0x05, text), (0x03, "03 0004 0001 0800")], 4);
+        refused(&[(0x05, text), (0x03, "ff 0004 0001 0002")], 10);
+        refused(&[(0x05, text), (0x03, "03 0005 0001 0002")], 11);
+        refused(&[(0x05, &format!("04 0004 0000 {serial}"))], 10);
+        for length in ["0000", "0001", "0003", "0005", "0104", "0204", "0400"] {
+            refused(&[(0x05, &format!("05 {length} 0000 {serial}"))], 11);
+        }
+        // the field is cut, or the file ends after it
+        let start = joined(|tag| tag < 0x05, &[]);
+        let field = bytes(text);
+        for len in 0..field.len() {
+            package_refused(&[&start[..], &field[..len]].concat(), 9);
+            check_file_refused(&[&start[..], &field[..len]].concat(), 9);
+        }
+        package_refused(&[&start[..], &field].concat(), 19);
+        check_file_refused(&[&start[..], &field].concat(), 19);
+    }
+}
+
+// Only 2 and 4 are lengths of a serial.
+#[test]
+fn other_lengths_of_a_serial() {
+    for length in (0..=65535).filter(|length| *length != 2 && *length != 4) {
+        for content in ["0007", "00010000", "00000007"] {
+            let package = package(&[(0x05, &format!("05 {length:04x} {content}"))]);
+            assert_eq!(read_package(&package), Err(Refusal::FieldLength));
+        }
+    }
+    for length in [0, 1, 3, 5, 6, 8, 256, 258, 260, 512, 516, 1024, 1028] {
+        let content = "01".repeat(length);
+        refused(&[(0x05, &format!("05 {length:04x} {content}"))], 11);
+    }
+    // the other of the two lengths: the next head is content, or content the
+    // next head
+    refused(&[(0x05, "05 0004 0007")], 10);
+    refused(&[(0x05, "05 0004 0000")], 19);
+    refused(&[(0x05, "05 0002 0001 0000")], 10);
 }
 
 #[test]
@@ -239,7 +312,9 @@ fn another_length_in_each_field() {
     for field in FIELDS {
         let (head, length, content) = (&field[..2], &field[3..7], &field[7..]);
         let length = u16::from_str_radix(length, 16).expect("a length");
-        for other in [length ^ 1, length + 2, length ^ 256, 65535] {
+        // a serial may have two bytes more
+        let more = length + if tag(field) == 0x05 { 4 } else { 2 };
+        for other in [length ^ 1, more, length ^ 256, 65535] {
             refused(&[(tag(field), &format!("{head}{other:04x}{content}"))], 11);
         }
     }

@@ -228,7 +228,7 @@ fn names() {
 #[test]
 fn numbers_and_words() {
     let numbers = Refusal::ALL.map(Refusal::number);
-    assert_eq!(numbers, [1, 2, 3, 4, 5, 6, 7, 8, 9, 10, 11, 12]);
+    assert_eq!(numbers, [1, 2, 3, 4, 5, 6, 7, 8, 9, 10, 11, 12, 19]);
     let error: &dyn std::error::Error = &Refusal::Position;
     assert_eq!(error.to_string(), "a position is 2^d or more");
     let mut texts: Vec<String> = Refusal::ALL.iter().map(Refusal::to_string).collect();

@@ -29,11 +29,13 @@ pub enum Refusal {
     FieldLength,
     /// 12: "bytes follow the last field".
     BytesFollow,
+    /// 19: "a four-byte serial is below 65,536".
+    LongSerial,
 }
 
 impl Refusal {
     /// All refusals in the order of their numbers.
-    pub const ALL: [Refusal; 12] = [
+    pub const ALL: [Refusal; 13] = [
         Refusal::SizeN,
         Refusal::SizeM,
         Refusal::SliceLength,
@@ -46,6 +48,7 @@ impl Refusal {
         Refusal::Tag,
         Refusal::FieldLength,
         Refusal::BytesFollow,
+        Refusal::LongSerial,
     ];
 
     /// The column "Number" of the table.
@@ -63,6 +66,7 @@ impl Refusal {
             Refusal::Tag => 10,
             Refusal::FieldLength => 11,
             Refusal::BytesFollow => 12,
+            Refusal::LongSerial => 19,
         }
     }
 }

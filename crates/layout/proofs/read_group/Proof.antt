@@ -1,12 +1,12 @@
-use Prim.Native.Nat.{_*_}
-use mathlib.Core.Path.{ap, _∙_}
+use Prim.Native.Nat.{ℕ, _*_}
+use mathlib.Core.Path.{ap₂, _∙_}
 use mathlib.Core.List.{[], _∷_}
 use native.Mathlib.Omega.{arith}
 use borrow.Author.Needs.{needs}
 use Rattle.field.specs.Level.{FIRST, levelAt}
 use Rattle.key.specs.declared.Lengths.{Lengths}
 use Rattle.layout.specs.declared.Row.{Row}
-use Rattle.layout.specs.declared.Kind.the-variants.{Any, Bits, Coordinates}
+use Rattle.layout.specs.declared.Kind.the-variants.{Serial, Bits, Coordinates}
 use Rattle.layout.specs.Steps.{outcome}
 use Rattle.layout.proofs.Rows.{outcome-more}
 use Rattle.layout.proofs.Bounds.{Bounds, bounds}
@@ -17,8 +17,8 @@ bound : (c : tie.After-lengths) → Bounds (c .lengths .result)
 bound c = rw (c .lengths .ensures) (bounds (c .before .before .args .key) (c .before .before .pre))
 
 -- the rows, of the lengths
-abbrev serialRow : Row
-serialRow = record { tag = 0x05; len = 2; kind = Any }
+abbrev serialRow : ℕ → Row
+serialRow k = record { tag = 0x05; len = k; kind = Serial }
 
 abbrev tRow : Lengths → Row
 tRow n = record { tag = 0x06; len = n .bits; kind = Bits }
@@ -29,8 +29,11 @@ aRow n = record { tag = 0x07; len = 2 * n .proof; kind = Coordinates }
 lengths-requires : tie.Need-lengths-requires
 lengths-requires c κs = search needs
 
-mul-t10 : tie.Need-mul-t10
-mul-t10 c = omega (arith, bound (c .before) .proof)
+serial-length-requires : tie.Need-serial-length-requires
+serial-length-requires c κs = search needs
+
+mul-t9 : tie.Need-mul-t9
+mul-t9 c = omega (arith, bound (c .before .before) .proof)
 
 read-row-requires : tie.Need-read-row-requires
 read-row-requires c κs = search needs
@@ -43,20 +46,23 @@ read-row-requires-3 c κs = search needs
 
 returns : tie.Need-returns
 returns c =
-    let g = c .before .before .before .before in
+    let k = c .before .before .before .before in
+    let g = k .before in
     let a = g .before .before .args in
     let n = g .lengths .result in
+    let serial = serialRow (k .serial-length .result) in
     let first = c .before .before .read-row .ensures in
-    let second = outcome-more (levelAt FIRST) (a .s .now) (a .at) (serialRow ∷ []) (tRow n ∷ []) first (c .before .read-row2 .ensures) in
-    outcome-more (levelAt FIRST) (a .s .now) (a .at) (serialRow ∷ tRow n ∷ []) (aRow n ∷ []) second (c .read-row3 .ensures)
-    ∙ ap (λ (n : Lengths). outcome (levelAt FIRST) (a .s .now) (a .at) (serialRow ∷ tRow n ∷ aRow n ∷ [])) (g .lengths .ensures)
+    let second = outcome-more (levelAt FIRST) (a .s .now) (a .at) (serial ∷ []) (tRow n ∷ []) first (c .before .read-row2 .ensures) in
+    outcome-more (levelAt FIRST) (a .s .now) (a .at) (serial ∷ tRow n ∷ []) (aRow n ∷ []) second (c .read-row3 .ensures)
+    ∙ ap₂ (λ (k : ℕ) (n : Lengths). outcome (levelAt FIRST) (a .s .now) (a .at) (serialRow k ∷ tRow n ∷ aRow n ∷ [])) (k .serial-length .ensures) (g .lengths .ensures)
 
 pub read-group-spec : {M : Type 1} → statement M
 read-group-spec =
     tie.close
     (tie.spec
     lengths-requires
-    mul-t10
+    serial-length-requires
+    mul-t9
     read-row-requires
     read-row-requires-2
     read-row-requires-3

@@ -3,6 +3,7 @@ use native.Mathlib.Nat.{add-comm, add-sub-cancel-left}
 use borrow.Author.Needs.{needs}
 use Rattle.lists.specs.Words.{part}
 use Rattle.field.specs.Level.{FIRST, levelAt}
+use Rattle.layout.specs.Layout.{packageRows}
 use Rattle.layout.specs.Tests.{partOf}
 use Rattle.package.specs.Reading.{partIf, packageReader, fieldPart}
 use Rattle.package.proofs.Accepted.{package-whole, of-reader}
@@ -16,7 +17,7 @@ found : (c : tie.After-located) →
 found c =
     let a = c .before .before .before .args in
     let s = a .bytes .now in
-    of-reader (levelAt FIRST) (packageReader (levelAt FIRST)) s (λ r rows. partIf r (partOf (a .tag) 0 rows)) (package-whole (levelAt FIRST) s) (c .before .check-package .ensures) (c .located .ensures .0)
+    of-reader (levelAt FIRST) (packageReader (levelAt FIRST)) s (λ r rows. partIf r (partOf (a .tag) 0 rows)) (package-whole (levelAt FIRST) s) (c .before .check-package .ensures) (c .located .ensures .0 (levelAt FIRST) (packageRows (levelAt FIRST) s))
 
 check-package-requires : tie.Need-check-package-requires
 check-package-requires c κs = search needs

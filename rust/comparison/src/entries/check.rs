@@ -50,9 +50,12 @@ pub const CHECK: Entry = Entry {
         of: "field",
         columns: || table::columns(File::CheckFile, ANSWERS),
         rows: || table::rows(File::CheckFile, ANSWERS),
-        cell: |answer, taken| match answer {
-            REJECTED => (table::READ.to_string(), REJECTED.to_string()),
-            _ => table::cell(reference::judge_check_file(taken.bytes(BYTES))),
+        cell: |answer, taken| {
+            let (row, column) = table::cell(reference::judge_check_file(taken.bytes(BYTES)));
+            match answer {
+                REJECTED => (row, REJECTED.to_string()),
+                _ => (row, column),
+            }
         },
     }),
     groups: || {
@@ -106,7 +109,13 @@ pub fn changed(
         let content = content_mut(&mut fields, tag);
         let len = content.len();
         match holds(tag) {
-            Some(Holds::Serial) => content[generator.below(len)] ^= 1 << generator.below(8),
+            Some(Holds::Serial) => {
+                content[generator.below(len)] ^= 1 << generator.below(8);
+                // A serial of four bytes must still need them.
+                if let [0, 0, _, _] = content[..] {
+                    continue;
+                }
+            }
             Some(Holds::Bits) => content[generator.below(len)] ^= 1,
             _ => {
                 let bit = generator.below(11);

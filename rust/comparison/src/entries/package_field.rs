@@ -6,7 +6,7 @@
 //! that were lent.
 
 use super::files::faults::set_value;
-use super::files::fields::{any_fields, HEAD};
+use super::files::fields::{any_fields, serial_field, serials_about_powers, set_serial, HEAD};
 use super::files::{self, groups, File, Reader, BYTES};
 use super::{keyed, readers, stated, DONE};
 use crate::case::{Case, Entry, Group, Table};
@@ -87,9 +87,11 @@ pub const FIELD: Entry = Entry {
             ALL_TAGS,
             ALL_TAGS_REFUSED,
             ALL_TAGS_CHECK_FILE,
+            SERIALS,
             groups::every_n::<PackageField>(),
             groups::prefixes::<PackageField>(),
             groups::one_fault::<PackageField>(),
+            groups::serials::<PackageField>(),
             groups::two_faults::<PackageField>(),
             groups::order::<PackageField>(),
             groups::short::<PackageField>(),
@@ -166,6 +168,25 @@ const ALL_TAGS: Group = Group::new("every n, all tags", |generator, each| {
     }
 });
 
+/// The sizes of some packages.
+const TRIED: [usize; 7] = [2, 3, 5, 9, 17, 33, 64];
+
+const SERIALS: Group = Group::new("serials and the fields about them", |generator, each| {
+    for n in TRIED {
+        let m = keyed::some_m(n, generator)[n % 3];
+        let fields = any_fields(n, m, generator);
+        let mut package = File::Package.part(&fields).to_vec();
+        for serial in serials_about_powers() {
+            set_serial(&mut package, serial_field(serial));
+            let bytes = Lent::with_bytes(&join(&package), generator);
+            for tag in [tag::X, tag::SERIAL, tag::T, tag::A] {
+                let part = part(&package, tag);
+                each(case(bytes.clone(), tag, Some(part), generator));
+            }
+        }
+    }
+});
+
 /// Bytes of which no field is handed back, with all tags.
 fn without_fields(bytes: &[u8], generator: &mut Generator, each: &mut dyn FnMut(Case)) {
     let bytes = match bytes {
@@ -176,9 +197,6 @@ fn without_fields(bytes: &[u8], generator: &mut Generator, each: &mut dyn FnMut(
         each(case(bytes.clone(), tag, Some([0, 0]), generator));
     }
 }
-
-/// The sizes of the packages that are refused.
-const TRIED: [usize; 7] = [2, 3, 5, 9, 17, 33, 64];
 
 const ALL_TAGS_REFUSED: Group = Group::new("refused packages, all tags", |generator, each| {
     for n in TRIED {

@@ -1,6 +1,6 @@
 //! The entries read package and read check file.
 
-use super::files::fields::{content_mut, content_of, serial_content, walked};
+use super::files::fields::{content_of, serial_field, set_serial, walked};
 use super::files::{self, groups, table, File, Reader, BYTES};
 use super::{number, stated, DONE};
 use crate::case::{Call, Case, Entry, Group, Stated, Table, Taken};
@@ -157,8 +157,8 @@ const fn example<R: Reader>() -> Group {
         let mut fields = key_a(R::FILE);
         let right = join(&fields);
         each(files::case::<R>(&right, Some(DONE), generator));
-        for serial in [0, 1, 255, 256, 32_767, 32_768, 65_535] {
-            *content_mut(&mut fields, tag::SERIAL) = serial_content(serial);
+        for serial in [0, 1, 255, 256, 65_535, 65_536, 16_777_216, u32::MAX] {
+            set_serial(&mut fields, serial_field(serial));
             each(files::case::<R>(&join(&fields), Some(DONE), generator));
         }
         for &tag in File::CheckFile.tags() {

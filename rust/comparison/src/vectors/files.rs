@@ -12,7 +12,7 @@ use crate::lent::Lent;
 use crate::named::Named;
 use crate::program;
 use crate::slices::{self, ALPHA, DELTA, H, MASKS, Q, X};
-use reference::package::tag;
+use reference::package::{tag, SERIAL_LENGTHS};
 use std::ops::Range;
 
 /// The slices of verify, each with the tag of its field.
@@ -113,10 +113,17 @@ fn as_slice(name: &str, content: List) -> List {
 /// A slice, as the content of a field.
 fn as_content(name: &str, slice: &List) -> List {
     if slices::named(name).elements.are_words() {
-        slice.two_bytes()
+        slice.in_bytes(2)
     } else {
         slice.clone()
     }
+}
+
+/// A serial, as the content of its field: in the shorter length where it fits.
+fn serial_content(serial: &List) -> List {
+    let [short, long] = SERIAL_LENGTHS;
+    let fits = serial.value(0) >> (8 * short) == 0;
+    serial.in_bytes(if fits { short } else { long })
 }
 
 /// The contents of the fields of a text, by their tags.
@@ -124,7 +131,7 @@ fn contents(text: &Text) -> Vec<(u8, List)> {
     let slices = text.slices(&text.solving);
     let mut list = vec![
         (tag::SIZES, List::joined(&[&text.n, &text.m])),
-        (tag::SERIAL, text.serial.two_bytes()),
+        (tag::SERIAL, serial_content(&text.serial)),
     ];
     let others = SLICES.iter();
     list.extend(others.map(|&(name, tag)| (tag, as_content(name, slices[name]))));

@@ -106,13 +106,18 @@ impl List {
         self.words.iter().map(|word| word.value as u16).collect()
     }
 
-    /// Each word as two bytes, the highest first.
-    pub fn two_bytes(&self) -> List {
-        let halves =
-            |&word: &Word| [word.value >> 8, word.value & 0xff].map(|value| Word { value, ..word });
+    /// Each word as this many bytes, the highest first.
+    pub fn in_bytes(&self, count: usize) -> List {
+        let bytes = |&word: &Word| {
+            let shifts = (0..count).rev().map(|place| 8 * place);
+            shifts.map(move |shift| Word {
+                value: word.value >> shift & 0xff,
+                ..word
+            })
+        };
         List {
             name: self.name,
-            words: self.words.iter().flat_map(halves).collect(),
+            words: self.words.iter().flat_map(bytes).collect(),
         }
     }
 

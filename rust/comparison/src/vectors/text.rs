@@ -304,9 +304,6 @@ pub fn parsed(text: &str) -> Result<Text, String> {
         return error(3, "d is 0");
     }
     let serial = lines.single("serial", 1, Form::Decimal)?;
-    if serial.value(0) > usize::from(u16::MAX) {
-        return error(4, "the serial has more than two bytes");
-    }
     let h = lines.numbered("h", m, n, Form::F)?;
     let x = lines.single("x", n, Form::F)?;
     let positions = lines.single("positions", n, Form::Small)?;

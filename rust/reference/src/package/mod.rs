@@ -3,9 +3,9 @@
 mod stated;
 mod written;
 
-pub use stated::{stated_of, tag, Kind, Stated, CHECK_FILE_TAGS, PACKAGE_TAGS};
+pub use stated::{stated_of, tag, Kind, Stated, CHECK_FILE_TAGS, PACKAGE_TAGS, SERIAL_LENGTHS};
 pub use written::{
-    check_fields, field_of, head_start, index_of, join, package_fields, package_part,
+    check_fields, field_of, head_start, index_of, join, package_fields, package_part, serial_bytes,
     write_check_file, write_package, WrittenField,
 };
 
@@ -154,12 +154,16 @@ fn serial(content: &[u8]) -> u32 {
     bytes.fold(0, |number, byte| 256 * number + byte)
 }
 
-/// The place P5: 1, 2, 4, 5 or 6 "as above, for the field's content". Answers
-/// the sizes: those of the content where it has some, else those before it.
+/// The place P5: 1, 2, 4, 5 or 6 "as above, for the field's content", and 19.
+/// Answers the sizes: those of the content where it has some, else those before
+/// it.
 fn judge_values(kind: Kind, content: &[u8], sizes: Sizes) -> Result<Sizes, Refusal> {
     match kind {
         Kind::Sizes => Sizes::judged(usize::from(content[0]), usize::from(content[1])),
         Kind::Key => elements_of_f(&words(content)).map(|_| sizes),
+        // "Serials that fit two bytes are still written in two, so each package
+        // keeps a single form."
+        Kind::Serial if serial_bytes(serial(content)) != content => Err(Refusal::LongSerial),
         Kind::Serial => Ok(sizes),
         Kind::Bits => bits(content).map(|_| sizes),
         Kind::Elements => elements_of_k(&words(content)).map(|_| sizes),
@@ -290,9 +294,9 @@ mod tests {
     use super::stated::stated;
     use super::*;
 
-    /// Three fields of one byte, the second of which may be absent.
+    /// Three fields of one bit, the second of which may be absent.
     fn answer(bytes: &[u8]) -> Result<Vec<u8>, (Refusal, Option<u8>)> {
-        let field = |tag| stated(tag, "", Kind::Serial, |_| vec![1]);
+        let field = |tag| stated(tag, "", Kind::Bits, |_| vec![1]);
         let mut fields = [1, 2, 3].map(field);
         fields[1].optional = true;
         match Judged::of(bytes, &fields) {
@@ -304,7 +308,7 @@ mod tests {
     #[test]
     fn a_field_that_may_be_absent() {
         let bytes = |tags: &[u8]| -> Vec<u8> {
-            let fields = tags.iter().flat_map(|&tag| [tag, 0, 1, 9]);
+            let fields = tags.iter().flat_map(|&tag| [tag, 0, 1, 1]);
             fields.collect()
         };
         let of = |tags: &[u8]| answer(&bytes(tags));

@@ -72,16 +72,22 @@ pub const fn stated(
     }
 }
 
+/// The lengths in bytes of the serial: "Field 05 may have length 2 or 4".
+pub const SERIAL_LENGTHS: [usize; 2] = [2, 4];
+
 /// The fields of a check file: "A package has exactly these fields in this
 /// order: 01 sizes (n, m, one byte each); 02 H (2mn bytes); 03 x (2n); 05
 /// serial (2, unsigned, any value); 06 t (nd bytes); 07 a (24d). A check file
 /// is a package followed by 11 q (24nd), 12 mask numbers (24(d - 1), the only
-/// field that may be empty), 13 Δ (24), 14 α (24(n + m))."
+/// field that may be empty), 13 Δ (24), 14 α (24(n + m))." The serial has a
+/// second length since.
 pub const FIELDS: &[Stated] = &[
     stated(tag::SIZES, "sizes", Kind::Sizes, |_| vec![2]),
     stated(tag::H, "h", Kind::Key, |k| vec![2 * k.m * k.n]),
     stated(tag::X, "x", Kind::Key, |k| vec![2 * k.n]),
-    stated(tag::SERIAL, "serial", Kind::Serial, |_| vec![2]),
+    stated(tag::SERIAL, "serial", Kind::Serial, |_| {
+        SERIAL_LENGTHS.to_vec()
+    }),
     stated(tag::T, "t", Kind::Bits, |k| vec![k.n * k.d]),
     stated(tag::A, "a", Kind::Elements, |k| vec![24 * k.d]),
     stated(tag::Q, "q", Kind::Elements, |k| vec![24 * k.n * k.d]),

@@ -65,25 +65,23 @@ fn word_bytes(words: &[u16]) -> Vec<u8> {
     words.iter().flat_map(|word| word.to_be_bytes()).collect()
 }
 
-/// The serial in two bytes, "highest byte first"; it is at most 65,535.
-fn serial_bytes(serial: u32) -> Vec<u8> {
-    let word = u16::try_from(serial).expect("a serial of two bytes");
-    word_bytes(&[word])
+/// The serial, "highest byte first": "Serials that fit two bytes are still
+/// written in two", and all others in four.
+pub fn serial_bytes(serial: u32) -> Vec<u8> {
+    match u16::try_from(serial) {
+        Ok(short) => short.to_be_bytes().to_vec(),
+        Err(_) => serial.to_be_bytes().to_vec(),
+    }
 }
 
 /// The fields of a package in their order; nothing is judged. n and m are
 /// written in one byte each.
-pub fn package_fields(
-    key: Key<'_>,
-    serial: impl Into<u32>,
-    t: &[u8],
-    a: &[u16],
-) -> Vec<WrittenField> {
+pub fn package_fields(key: Key<'_>, serial: u32, t: &[u8], a: &[u16]) -> Vec<WrittenField> {
     vec![
         WrittenField::new(tag::SIZES, vec![key.n as u8, key.m as u8]),
         WrittenField::new(tag::H, word_bytes(key.h)),
         WrittenField::new(tag::X, word_bytes(key.x)),
-        WrittenField::new(tag::SERIAL, serial_bytes(serial.into())),
+        WrittenField::new(tag::SERIAL, serial_bytes(serial)),
         WrittenField::new(tag::T, t.to_vec()),
         WrittenField::new(tag::A, word_bytes(a)),
     ]
@@ -100,7 +98,7 @@ pub fn check_fields(q: &[u16], masks: &[u16], delta: &[u16], alpha: &[u16]) -> V
 }
 
 /// Writes a package by concatenation; nothing is judged.
-pub fn write_package(key: Key<'_>, serial: impl Into<u32>, t: &[u8], a: &[u16]) -> Vec<u8> {
+pub fn write_package(key: Key<'_>, serial: u32, t: &[u8], a: &[u16]) -> Vec<u8> {
     join(&package_fields(key, serial, t, a))
 }
 
@@ -108,7 +106,7 @@ pub fn write_package(key: Key<'_>, serial: impl Into<u32>, t: &[u8], a: &[u16]) 
 #[allow(clippy::too_many_arguments)]
 pub fn write_check_file(
     key: Key<'_>,
-    serial: impl Into<u32>,
+    serial: u32,
     t: &[u8],
     a: &[u16],
     q: &[u16],

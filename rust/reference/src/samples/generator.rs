@@ -63,6 +63,16 @@ impl Generator {
         (0..count).map(|_| self.below(2) as u8).collect()
     }
 
+    /// A serial: every other one takes any value of 32 bits, and the others one
+    /// that fits two bytes.
+    pub fn serial(&mut self) -> u32 {
+        let number = self.number();
+        match number >> 63 {
+            0 => u32::from(number as u16),
+            _ => number as u32,
+        }
+    }
+
     /// An element of K of the first level.
     pub fn element(&mut self) -> K {
         self.large()

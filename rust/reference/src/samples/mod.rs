@@ -95,7 +95,7 @@ impl Sample {
         let s = generator.words(sizes.mask_words());
         let alpha = generator.words(sizes.weight_words());
         let delta = generator.words(sizes.delta_words());
-        let serial = generator.below(65_536) as u32;
+        let serial = generator.serial();
         let mut sample = Sample {
             n,
             m,

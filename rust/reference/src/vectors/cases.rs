@@ -2,7 +2,7 @@
 //! early and large files. The other faults are made in [`super::faults`].
 
 use super::fields::{has_words, set_word, Fields};
-use super::{generator, sample, File, SIZES};
+use super::{generator, sample, solving, File, SIZES};
 use crate::package::{stated_of, tag, Kind};
 use crate::perkcheck::{perkcheck_line, LIMIT};
 use crate::samples::Sample;
@@ -32,6 +32,7 @@ impl Cases {
         cases.two_faults(&key_a);
         cases.two_fields(&key_a);
         cases.larger_key(&Fields::of(&sample(5, 2)));
+        cases.serials(&Sample::key_a());
         cases.ends(&key_a);
         cases.long(&key_a);
         cases.largest();
@@ -74,7 +75,13 @@ impl Cases {
     }
 
     /// Adds a case that is accepted or rejected with the head of this sample.
-    fn judged(&mut self, name: impl Into<String>, fields: &Fields, of: &Sample, word: &str) {
+    pub(super) fn judged(
+        &mut self,
+        name: impl Into<String>,
+        fields: &Fields,
+        of: &Sample,
+        word: &str,
+    ) {
         let Sample { n, m, serial, .. } = of;
         let line = format!("serial {serial} n {n} m {m} {word}");
         self.add(name, fields.bytes(), line);
@@ -87,12 +94,6 @@ impl Cases {
         self.judged("key_a", &fields, &key_a, "accepted");
         let other = fields.with(tag::A, |field| set_word(field, 0, 4));
         self.judged("key_a_a_4", &other, &key_a, "rejected");
-        for serial in [0, 1, 255, 256, 65_535] {
-            let mut other = key_a.clone();
-            other.serial = serial;
-            let fields = Fields::of(&other);
-            self.judged(format!("serial_{serial}"), &fields, &other, "accepted");
-        }
         self.sizes();
         self.largest_words();
         self.zeros();
@@ -125,7 +126,7 @@ impl Cases {
 
     /// 2047 in every coordinate is no refusal.
     fn largest_words(&mut self) {
-        let mut sample = Sample::solving(3, 2, &mut generator(3, 2));
+        let mut sample = solving(3, 2, generator(3, 2));
         for list in [&mut sample.v, &mut sample.r, &mut sample.alpha] {
             list.fill(2047);
         }
@@ -152,11 +153,11 @@ impl Cases {
 
     /// The equation alone decides: zero weights, then a zero challenge.
     fn zeros(&mut self) {
-        let mut sample = Sample::solving(5, 2, &mut generator(5, 1));
+        let mut sample = solving(5, 2, generator(5, 1));
         sample.alpha.fill(0);
         let fields = Fields::of(&sample).with(tag::T, |field| field.content.fill(1));
         self.judged("alpha_0_any_t", &fields, &sample, "accepted");
-        let mut sample = Sample::solving(5, 2, &mut generator(5, 1));
+        let mut sample = solving(5, 2, generator(5, 1));
         sample.delta.fill(0);
         sample.make_honest();
         let fields = Fields::of(&sample);

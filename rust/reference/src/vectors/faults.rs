@@ -6,12 +6,12 @@ use crate::package::{stated_of, tag, WrittenField, HEAD};
 use std::collections::BTreeSet;
 
 /// Another tag.
-fn other_tag(field: &mut WrittenField) {
+pub(super) fn other_tag(field: &mut WrittenField) {
     field.tag ^= 0x80;
 }
 
 /// Another length.
-fn other_length(field: &mut WrittenField) {
+pub(super) fn other_length(field: &mut WrittenField) {
     field.length ^= 1;
 }
 
@@ -138,7 +138,6 @@ impl Cases {
     pub(super) fn two_faults(&mut self, fields: &Fields) {
         for tag in fields.tags() {
             let f = stated_of(tag).name;
-            let length = usize::from(fields.field(tag).length);
             let [tagged, sized] = [other_tag, other_length].map(|change| fields.with(tag, change));
 
             // P1 and P2.
@@ -167,6 +166,7 @@ impl Cases {
             let Some((number, faulty)) = fields.with_value_fault(tag) else {
                 continue;
             };
+            let length = faulty.field(tag).content.len();
             // P2 and P5.
             let bytes = faulty.with(tag, other_tag).bytes();
             self.refused(format!("two_{f}_tag_value"), bytes, 10);
@@ -230,6 +230,7 @@ impl Cases {
                 continue;
             };
             self.refused(format!("n5_{f}_value"), faulty.bytes(), number);
+            let length = faulty.field(tag).content.len();
             let bytes = faulty.cut(tag, HEAD + length - 1);
             self.refused(format!("n5_{f}_cut_value"), bytes, 9);
             let bytes = faulty.cut(tag, HEAD + length);

@@ -39,6 +39,14 @@ pub fn set(field: &mut WrittenField, place: usize, value: u16) {
     }
 }
 
+/// Writes the lowest two bytes of a serial in four.
+pub fn lengthen(field: &mut WrittenField) {
+    let [.., high, low] = field.content[..] else {
+        panic!("a serial has two bytes or four");
+    };
+    *field = WrittenField::new(field.tag, vec![0, 0, high, low]);
+}
+
 impl Fields {
     /// The fields of the check file of a sample that is solved.
     pub fn of(sample: &Sample) -> Fields {
@@ -108,6 +116,9 @@ impl Fields {
         }
         if tag == tag::SIZES {
             return Some((2, self.with(tag, |field| field.content[1] = 0)));
+        }
+        if tag == tag::SERIAL {
+            return Some((19, self.with(tag, lengthen)));
         }
         let least = if has_words(tag) { 2048 } else { 2 };
         let faulty = self.with(tag, |field| set(field, 0, least));

@@ -4,6 +4,7 @@
 mod cases;
 mod faults;
 mod fields;
+mod serials;
 mod text;
 
 pub use cases::{Case, Cases};
@@ -55,7 +56,20 @@ fn generator(n: usize, m: usize) -> Generator {
     Generator::new((1000 * n + m) as u64)
 }
 
+/// A solving sample with a serial of two bytes.
+fn solving(n: usize, m: usize, mut generator: Generator) -> Sample {
+    let mut sample = Sample::solving(n, m, &mut generator);
+    sample.serial &= 0xffff;
+    sample
+}
+
+/// The serials of four bytes: that of a text file, and that of the largest file.
+const LONG_SERIALS: [((usize, usize), u32); 2] = [((3, 1), 2_718_281_828), ((64, 63), u32::MAX)];
+
 /// The solving sample of a size.
 fn sample(n: usize, m: usize) -> Sample {
-    Sample::solving(n, m, &mut generator(n, m))
+    let mut sample = solving(n, m, generator(n, m));
+    let long = LONG_SERIALS.iter().find(|(sizes, _)| *sizes == (n, m));
+    sample.serial = long.map_or(sample.serial, |&(_, serial)| serial);
+    sample
 }

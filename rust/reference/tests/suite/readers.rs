@@ -1,14 +1,14 @@
 //! The readers, the field of a package, and perkcheck's line.
 
 use reference::package::{
-    check_file_field, head_start, index_of, join, package_of, package_part, tag, CHECK_FILE_TAGS,
-    HEAD, PACKAGE_TAGS,
+    check_file_field, field_of, head_start, index_of, join, package_of, package_part, serial_bytes,
+    tag, WrittenField, CHECK_FILE_TAGS, HEAD, PACKAGE_TAGS,
 };
 use reference::samples::{Generator, Sample};
 use reference::vectors::Cases;
 use reference::{
     check, field, field_range, judge_check_file, judge_package, perkcheck_line, read_check_file,
-    read_package, write_check_file, write_package, Contents, Refused, Verdict,
+    read_package, write_check_file, write_package, Contents, Refusal, Refused, Verdict,
 };
 use std::collections::{BTreeMap, BTreeSet};
 
@@ -24,6 +24,7 @@ fn walk(bytes: &[u8], check_file: bool) -> Plain {
     let mut next = Some(tag::SIZES);
     while let Some(stated) = next {
         let length = match stated {
+            tag::SERIAL if bytes.get(at + 1..at + 3) == Some(&[0, 4]) => 4,
             tag::SIZES | tag::SERIAL => 2,
             tag::H => 2 * m * n,
             tag::X => 2 * n,
@@ -57,7 +58,11 @@ fn walk(bytes: &[u8], check_file: bool) -> Plain {
             }
             tag::H | tag::X if high => return Err((4, 5, stated)),
             tag::H | tag::X => {}
-            tag::SERIAL => serial = u32::from(content[0]) << 8 | u32::from(content[1]),
+            tag::SERIAL => match *content {
+                [0, 0, _, _] => return Err((19, 5, stated)),
+                [a, b, c, d] => serial = u32::from_be_bytes([a, b, c, d]),
+                _ => serial = u32::from(content[0]) << 8 | u32::from(content[1]),
+            },
             tag::T if content.iter().any(|&byte| byte > 1) => return Err((5, 5, stated)),
             tag::T => {}
             _ if high => return Err((6, 5, stated)),
@@ -97,15 +102,44 @@ fn plain(answer: Result<Contents, Refused>) -> Plain {
         })
 }
 
-/// Samples of some sizes with small files.
+/// Samples of some sizes with small files, some with a serial of two bytes and
+/// some with one of four.
 fn samples() -> Vec<Sample> {
     let mut generator = Generator::new(40);
     let mut samples = vec![Sample::key_a()];
-    for (n, m) in [(2, 1), (3, 2), (4, 1), (5, 2), (9, 4)] {
-        samples.push(Sample::solving(n, m, &mut generator));
+    for (n, m, serial) in [
+        (2, 1, 40_000),
+        (3, 2, 65_536),
+        (4, 1, u32::MAX),
+        (5, 2, 0),
+        (9, 4, 305_419_896),
+    ] {
+        let sample = Sample::solving(n, m, &mut generator);
+        samples.push(Sample { serial, ..sample });
     }
     samples
 }
+
+/// Sets the content of the field of the serial, and its length.
+fn set_serial(fields: &mut [WrittenField], content: &[u8]) {
+    *field_of(fields, tag::SERIAL) = WrittenField::new(tag::SERIAL, content.to_vec());
+}
+
+/// Serials with their only form.
+const SERIALS: [(u32, &[u8]); 12] = [
+    (0, &[0, 0]),
+    (1, &[0, 1]),
+    (255, &[0, 255]),
+    (256, &[1, 0]),
+    (32_768, &[128, 0]),
+    (65_535, &[255, 255]),
+    (65_536, &[0, 1, 0, 0]),
+    (65_537, &[0, 1, 0, 1]),
+    (16_777_215, &[0, 255, 255, 255]),
+    (16_777_216, &[1, 0, 0, 0]),
+    (2_147_483_648, &[128, 0, 0, 0]),
+    (4_294_967_295, &[255, 255, 255, 255]),
+];
 
 /// A random change of a file.
 fn change(bytes: &mut Vec<u8>, starts: &[usize], generator: &mut Generator) {
@@ -144,8 +178,14 @@ fn both_readers_agree_with_a_second_reader() {
             } else {
                 package_part(&fields)
             };
-            let starts: Vec<usize> = part.iter().map(|f| head_start(part, f.tag)).collect();
-            let mut bytes = join(part);
+            let mut part = part.to_vec();
+            match generator.below(16) {
+                0 => set_serial(&mut part, &[0, 0, generator.below(256) as u8, 9]),
+                1 => set_serial(&mut part, &serial_bytes(generator.serial())),
+                _ => {}
+            }
+            let starts: Vec<usize> = part.iter().map(|f| head_start(&part, f.tag)).collect();
+            let mut bytes = join(&part);
             for _ in 0..generator.below(4) {
                 change(&mut bytes, &starts, &mut generator);
             }
@@ -162,7 +202,7 @@ fn both_readers_agree_with_a_second_reader() {
     }
     for answers in [package_answers, check_answers] {
         let numbers: BTreeSet<u32> = answers.keys().copied().collect();
-        let stated = BTreeSet::from([0, 1, 2, 4, 5, 6, 9, 10, 11, 12]);
+        let stated = BTreeSet::from([0, 1, 2, 4, 5, 6, 9, 10, 11, 12, 19]);
         assert_eq!(numbers, stated, "{answers:?}");
         assert!(answers.values().all(|&count| count >= 30), "{answers:?}");
     }
@@ -205,6 +245,56 @@ fn every_written_file_is_read_back() {
         assert_eq!(file, sample.check_file().unwrap());
         assert_eq!(read_check_file(&file), Ok(contents));
         assert_eq!(check(&file), Ok((contents, Verdict::Accepted)));
+    }
+}
+
+#[test]
+fn a_serial_has_one_form() {
+    let fields = Sample::key_a().fields().expect("key A is solved");
+    let read = |content: &[u8]| {
+        let mut fields = fields.clone();
+        set_serial(&mut fields, content);
+        let package = join(package_part(&fields));
+        let answer = read_package(&package).map_err(Refusal::number);
+        let of_file = read_check_file(&join(&fields)).map_err(Refusal::number);
+        assert_eq!(answer, of_file);
+        if answer.is_ok() {
+            assert_eq!(field(&package, tag::SERIAL), content);
+        }
+        answer.map(|contents| contents.serial)
+    };
+    for (serial, content) in SERIALS {
+        assert_eq!(serial_bytes(serial), content);
+        assert_eq!(read(content), Ok(serial));
+        let lower = [content[content.len() - 2], content[content.len() - 1]];
+        assert_eq!(read(&[0, 0, lower[0], lower[1]]), Err(19));
+    }
+    for serial in 0..=65_535_u16 {
+        let [high, low] = serial.to_be_bytes();
+        assert_eq!(read(&[high, low]), Ok(serial.into()));
+        assert_eq!(read(&[0, 0, high, low]), Err(19));
+    }
+}
+
+#[test]
+fn only_two_and_four_are_lengths_of_a_serial() {
+    let fields = Sample::key_a().fields().expect("key A is solved");
+    for content in [&[0, 7][..], &[0, 0, 0, 7], &[0, 1, 0, 7]] {
+        for length in (0..=65_535).filter(|&length| length != 2 && length != 4) {
+            let mut fields = package_part(&fields).to_vec();
+            set_serial(&mut fields, content);
+            field_of(&mut fields, tag::SERIAL).length = length;
+            let answer = judge_package(&join(&fields));
+            assert_eq!(plain(answer), Err((11, 3, tag::SERIAL)), "{length}");
+        }
+    }
+    for length in [0, 1, 3, 5, 6, 8, 256, 258, 260, 512, 516, 1024, 1028] {
+        let mut fields = fields.clone();
+        set_serial(&mut fields, &vec![1; length]);
+        assert_eq!(
+            plain(judge_check_file(&join(&fields))),
+            Err((11, 3, tag::SERIAL))
+        );
     }
 }
 
@@ -277,11 +367,16 @@ fn fields_of_check_files() {
 
 #[test]
 fn the_largest_file() {
-    let sample = Sample::solving(64, 63, &mut Generator::new(43));
-    let file = sample.check_file().expect("the sample is solved");
-    assert_eq!(file.len(), 21_162);
-    let line = format!("serial {} n 64 m 63 accepted\n", sample.serial);
-    assert_eq!(perkcheck_line(&file), line);
+    let mut sample = Sample::solving(64, 63, &mut Generator::new(43));
+    for (serial, package, whole) in [(65_535, 8_742, 21_162), (u32::MAX, 8_744, 21_164)] {
+        sample.serial = serial;
+        let fields = sample.fields().expect("the sample is solved");
+        assert_eq!(join(package_part(&fields)).len(), package);
+        let file = join(&fields);
+        assert_eq!(file.len(), whole);
+        let line = format!("serial {serial} n 64 m 63 accepted\n");
+        assert_eq!(perkcheck_line(&file), line);
+    }
 }
 
 #[test]
@@ -310,14 +405,24 @@ fn the_cases_have_every_answer() {
         };
         *answers.entry(answer).or_default() += 1;
     }
-    for answer in ["1", "2", "4", "5", "6", "9", "10", "11", "12"] {
+    for answer in ["1", "2", "4", "5", "6", "9", "10", "11", "12", "19"] {
         assert!(answers[answer] >= 5, "{answer}: {answers:?}");
     }
     assert!(answers["accepted"] >= 5 && answers["rejected"] >= 5);
-    assert_eq!(answers.len(), 11, "{answers:?}");
+    assert_eq!(answers.len(), 12, "{answers:?}");
     let cuts = cases
         .list()
         .iter()
         .filter(|case| case.name.starts_with("cut_"));
     assert_eq!(cuts.count(), 212);
+    // The longest file that is accepted.
+    let accepted = cases.list().iter();
+    let accepted = accepted.filter(|case| case.line.ends_with(" accepted\n"));
+    let longest = accepted
+        .max_by_key(|case| case.bytes.len())
+        .expect("a case");
+    assert_eq!(
+        (&longest.name[..], longest.bytes.len()),
+        ("largest", 21_164)
+    );
 }

@@ -164,6 +164,8 @@ fn the_text_files_hold_the_answers() {
         let text = Text::of(n, m);
         let sample = text.sample();
         assert_eq!((sample.n, sample.m), (n, m));
+        // One of the files has a serial of four bytes.
+        assert_eq!(sample.serial > 65_535, (n, m) == (3, 1));
         assert_eq!(sample.u.len(), n * sample.d);
         assert_eq!(sample.masks.len(), COORDINATES * (sample.d - 1));
         let q = honest_q(&sample.u, &sample.v, &sample.delta);

@@ -3,16 +3,16 @@
 
 use super::faults::{any_of, following, other_length, other_tag, spoil_values};
 use super::fields::{
-    any_serial, dependent_rows, elements, holds, serial_content, set_word, starts, value_refusals,
+    any_serial, dependent_rows, elements, holds, serial_field, set_word, starts, value_refusals,
     Holds,
 };
 use super::Reader;
-use reference::package::{join, tag, WrittenField};
+use reference::package::{join, tag, WrittenField, SERIAL_LENGTHS};
 use reference::samples::Generator;
 use reference::small_field::F;
 
 /// Changes of whole fields.
-const FIELD_CHANGES: usize = 9;
+const FIELD_CHANGES: usize = 10;
 
 /// Changes whole fields.
 fn change_fields(fields: &mut Vec<WrittenField>, generator: &mut Generator) {
@@ -28,7 +28,8 @@ fn change_fields(fields: &mut Vec<WrittenField>, generator: &mut Generator) {
         4 => field.length = field.length.wrapping_sub(1),
         5 => field.tag = other_tag(field.tag, generator),
         6 if spoilable => drop(spoil_values(field, generator)),
-        7 => field.length = other_length(field.length, generator),
+        7 => field.length = other_length(field, generator),
+        8 => field.length = any_of(&SERIAL_LENGTHS, generator) as u16,
         _ => harmless(fields, index, generator),
     }
 }
@@ -47,7 +48,7 @@ pub fn harmless(fields: &mut [WrittenField], index: usize, generator: &mut Gener
     for _ in 0..TRIES {
         let field = &mut fields[index];
         match holds(field.tag) {
-            Some(Holds::Serial) => field.content = serial_content(any_serial(generator)),
+            Some(Holds::Serial) => *field = serial_field(any_serial(generator)),
             Some(Holds::Bits) => field.content[generator.below(count)] ^= 1,
             Some(Holds::Words) => {
                 let word = any_of(&[0, 1, 2046, F::LARGEST, generator.word()], generator);

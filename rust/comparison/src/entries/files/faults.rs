@@ -1,6 +1,9 @@
 //! Faults of one field, at one place, whose answers are known.
 
-use super::fields::{self, elements, holds, set_word, starts, value_refusals, Holds, HEAD};
+use super::fields::{
+    self, elements, holds, may_have_length, serial_in_four, set_word, starts, value_refusals,
+    Holds, HEAD,
+};
 use super::Reader;
 use crate::entries::DONE;
 use reference::package::{join, WrittenField, CHECK_FILE_TAGS};
@@ -111,7 +114,7 @@ impl Draft {
             }
             Place::Length => {
                 let field = &mut self.fields[index];
-                field.length = other_length(field.length, generator);
+                field.length = other_length(field, generator);
                 // The content has the right length, or the wrong one.
                 if field.length < 1000 && generator.below(2) == 0 {
                     field.content.resize(field.length.into(), 0);
@@ -144,18 +147,20 @@ pub fn other_tag(tag: u8, generator: &mut Generator) -> u8 {
     }
 }
 
-/// Another length: off by a little, with another byte, or any.
-pub fn other_length(length: u16, generator: &mut Generator) -> u16 {
+/// A length that a field may not have: off by a little, with another byte, or
+/// any. Its own length is right.
+pub fn other_length(field: &WrittenField, generator: &mut Generator) -> u16 {
+    let length = field.length;
     loop {
         let other = match generator.below(8) {
             0 | 1 => length.wrapping_add(1),
             2 | 3 => length.wrapping_sub(1),
             4 => length ^ (1 << generator.below(16)),
             5 => length.swap_bytes(),
-            6 => any_of(&[0, 1, 2, 24, 256, 65_535], generator),
+            6 => any_of(&[0, 1, 2, 4, 24, 256, 260, 1024, 65_535], generator),
             _ => generator.number() as u16,
         };
-        if other != length {
+        if !may_have_length(field, other) {
             return other;
         }
     }
@@ -209,6 +214,11 @@ fn spoil_value(field: &mut WrittenField, refusal: Refusal, generator: &mut Gener
         Refusal::KeyElement | Refusal::Coordinate => {
             let at = any_place(elements(field), generator);
             set_word(field, at, word_above(generator));
+        }
+        Refusal::LongSerial => {
+            let any = generator.number() as u16;
+            let serial = any_of(&[0, 1, 255, 256, 32_768, 65_535, any, any], generator);
+            *field = serial_in_four(serial);
         }
         other => panic!("{other:?} is no refusal at the place of values"),
     }

@@ -3,7 +3,10 @@
 use crate::entries::keyed;
 use crate::kinds::Kind;
 use reference::key::Sizes;
-use reference::package::{check_fields, index_of, package_fields, tag, words, WrittenField};
+use reference::package::{
+    check_fields, field_of, index_of, package_fields, serial_bytes, tag, words, WrittenField,
+    SERIAL_LENGTHS,
+};
 use reference::samples::{independent, Generator};
 use reference::small_field::F;
 use reference::{Key, Refusal};
@@ -49,7 +52,7 @@ const FIELDS: &[Field] = &[
     field(tag::SIZES, Holds::Sizes, &[Refusal::SizeN, Refusal::SizeM]),
     field(tag::H, Holds::Words, &[Refusal::KeyElement]),
     field(tag::X, Holds::Words, &[Refusal::KeyElement]),
-    field(tag::SERIAL, Holds::Serial, &[]),
+    field(tag::SERIAL, Holds::Serial, &[Refusal::LongSerial]),
     field(tag::T, Holds::Bits, &[Refusal::Bit]),
     field(tag::A, Holds::Words, &[Refusal::Coordinate]),
     field(tag::Q, Holds::Words, &[Refusal::Coordinate]),
@@ -101,20 +104,47 @@ pub fn any_fields(n: usize, m: usize, generator: &mut Generator) -> Vec<WrittenF
     fields
 }
 
-/// Any serial; in one of four one about a power of two or of ten.
-pub fn any_serial(generator: &mut Generator) -> u16 {
-    const SERIALS: [u16; 16] = [
-        0, 1, 7, 9, 10, 99, 100, 255, 256, 999, 1000, 9999, 10_000, 32_767, 32_768, 65_535,
-    ];
+/// The serials about powers of two and of ten.
+pub fn serials_about_powers() -> Vec<u32> {
+    let powers_of_two = (0..=32).map(|exponent| 1_u64 << exponent);
+    let powers_of_ten = (0..10).map(|exponent| 10_u64.pow(exponent));
+    let powers = powers_of_two.chain(powers_of_ten);
+    let about = powers.flat_map(|power| [power - 1, power, power + 1]);
+    about.filter_map(|serial| serial.try_into().ok()).collect()
+}
+
+/// Any serial, of two bytes or of four; in one of four one about a power of two
+/// or of ten.
+pub fn any_serial(generator: &mut Generator) -> u32 {
     match generator.below(4) {
-        0 => SERIALS[generator.below(SERIALS.len())],
-        _ => generator.number() as u16,
+        0 => {
+            let serials = serials_about_powers();
+            serials[generator.below(serials.len())]
+        }
+        _ => generator.serial(),
     }
 }
 
-/// The content of the field of a serial.
-pub fn serial_content(serial: u16) -> Vec<u8> {
-    serial.to_be_bytes().to_vec()
+/// The field of a serial.
+pub fn serial_field(serial: u32) -> WrittenField {
+    WrittenField::new(tag::SERIAL, serial_bytes(serial))
+}
+
+/// The field of a serial that fits two bytes, in four.
+pub fn serial_in_four(serial: u16) -> WrittenField {
+    let [high, low] = serial.to_be_bytes();
+    WrittenField::new(tag::SERIAL, vec![0, 0, high, low])
+}
+
+/// Puts the field of a serial in the place of the one that the list has.
+pub fn set_serial(fields: &mut [WrittenField], serial: WrittenField) {
+    *field_of(fields, tag::SERIAL) = serial;
+}
+
+/// Whether a field, whose own length is right, may have this length.
+pub fn may_have_length(field: &WrittenField, length: u16) -> bool {
+    let serial = field.tag == tag::SERIAL;
+    length == field.length || serial && SERIAL_LENGTHS.contains(&length.into())
 }
 
 /// The content of the field with this tag, which the list has.

@@ -2,12 +2,15 @@
 
 use super::damage::{damaged_file, Pool};
 use super::faults::{any_of, faulty, following, set_value, spots, Draft};
-use super::fields::{any_fields, content_mut, elements, holds, value_refusals, Holds, HEAD};
+use super::fields::{
+    any_fields, content_mut, elements, holds, may_have_length, serial_field, serial_in_four,
+    serials_about_powers, set_serial, value_refusals, Holds, HEAD,
+};
 use super::{case, File, Reader};
 use crate::case::{decided, Case, Group};
 use crate::entries::{keyed, DONE};
 use crate::lent::Lent;
-use reference::package::{join, tag, WrittenField};
+use reference::package::{field_of, join, tag, WrittenField, SERIAL_LENGTHS};
 use reference::samples::Generator;
 use reference::Refusal;
 
@@ -19,6 +22,8 @@ const TAG: u32 = 10;
 const LENGTH: u32 = 11;
 /// 12: "bytes follow the last field".
 const FOLLOW: u32 = 12;
+/// 19: "a four-byte serial is below 65,536".
+const LONG_SERIAL: u32 = 19;
 
 /// The groups of an entry that answers refusals.
 pub fn fault_groups<R: Reader>() -> Vec<Group> {
@@ -28,6 +33,7 @@ pub fn fault_groups<R: Reader>() -> Vec<Group> {
         one_fault::<R>(),
         sizes::<R>(),
         each_value::<R>(),
+        serials::<R>(),
         two_faults::<R>(),
         order::<R>(),
         short::<R>(),
@@ -144,7 +150,8 @@ pub const fn heads<R: Reader>() -> Group {
                     each(case::<R>(&draft.bytes(), Some(TAG), generator));
                 }
                 let bits = (0..16).map(|bit| field.length ^ (1 << bit));
-                for other in bits.chain(0..300).filter(|&other| other != field.length) {
+                let lengths = bits.chain(0..300);
+                for other in lengths.filter(|&other| !may_have_length(field, other)) {
                     let mut draft = Draft::new::<R>(&fields);
                     draft.fields[index].length = other;
                     if other % 2 == 1 {
@@ -214,6 +221,60 @@ pub const fn each_value<R: Reader>() -> Group {
             }
         }
     })
+}
+
+/// Lengths that a serial may not have, and some of them with as much content.
+fn lengths_of_serial<R: Reader>(
+    fields: &[WrittenField],
+    generator: &mut Generator,
+    each: &mut dyn FnMut(Case),
+) {
+    let lengths = (0..=255).flat_map(|high| SERIAL_LENGTHS.map(|low| high << 8 | low as u16));
+    for length in lengths.chain(0..=255) {
+        let mut draft = Draft::new::<R>(fields);
+        let field = field_of(&mut draft.fields, tag::SERIAL);
+        if may_have_length(field, length) {
+            continue;
+        }
+        field.length = length;
+        each(case::<R>(&draft.bytes(), Some(LENGTH), generator));
+        if length < 1500 {
+            content_mut(&mut draft.fields, tag::SERIAL).resize(length.into(), 0);
+            each(case::<R>(&draft.bytes(), Some(LENGTH), generator));
+        }
+    }
+}
+
+/// Serials about powers in the form that they have, in four bytes where they fit
+/// two, and with the other of the two lengths.
+pub const fn serials<R: Reader>() -> Group {
+    Group::new(
+        "serials of two and of four bytes, other lengths",
+        |generator, each| {
+            for &(n, m) in &R::SMALL[..3] {
+                let mut fields = R::fields(n, m, generator);
+                for serial in serials_about_powers() {
+                    set_serial(&mut fields, serial_field(serial));
+                    each(case::<R>(&file::<R>(&fields), Some(DONE), generator));
+                    for length in SERIAL_LENGTHS {
+                        // The next head is content, or content the next head.
+                        let mut draft = Draft::new::<R>(&fields);
+                        field_of(&mut draft.fields, tag::SERIAL).length = length as u16;
+                        each(case::<R>(&draft.bytes(), None, generator));
+                    }
+                    if let Ok(short) = serial.try_into() {
+                        let mut draft = Draft::new::<R>(&fields);
+                        set_serial(&mut draft.fields, serial_in_four(short));
+                        each(case::<R>(&draft.bytes(), Some(LONG_SERIAL), generator));
+                    }
+                }
+                for serial in [7, 65_535, 65_536, u32::MAX] {
+                    set_serial(&mut fields, serial_field(serial));
+                    lengths_of_serial::<R>(&fields, generator, each);
+                }
+            }
+        },
+    )
 }
 
 /// Two faults, at each pair of places: the first in the order of the table

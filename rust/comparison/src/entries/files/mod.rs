@@ -31,6 +31,7 @@ pub const REFUSALS: &[Refusal] = &[
     Refusal::SizeN,
     Refusal::SizeM,
     Refusal::KeyElement,
+    Refusal::LongSerial,
     Refusal::Bit,
     Refusal::Coordinate,
     Refusal::BytesFollow,

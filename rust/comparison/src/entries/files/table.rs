@@ -3,10 +3,14 @@
 use super::faults::{refusals_at, PLACES};
 use super::File;
 use crate::case::{Cell, Rows};
+use reference::package::serial_bytes;
 use reference::{Contents, Place, Refusal, Refused};
 
-/// The row of files that are read.
-pub const READ: &str = "read";
+/// The row of files that are read, by the bytes that their serial takes.
+fn read(serial: u32) -> String {
+    format!("read, {}", serial_bytes(serial).len())
+}
+
 /// The row of files that bytes follow.
 const END: &str = "end";
 
@@ -56,15 +60,15 @@ pub fn rows(file: File, answers: &[&str]) -> Rows {
     let mut rows: Rows = fields.map(|&tag| (row(tag), columns_of(tag))).collect();
     let end = column(Place::End, Refusal::BytesFollow);
     rows.push((END.to_string(), vec![end]));
-    let answers = answers.iter().map(ToString::to_string);
-    rows.push((READ.to_string(), answers.collect()));
+    let answers: Vec<String> = answers.iter().map(ToString::to_string).collect();
+    rows.extend([0, u32::MAX].map(|serial| (read(serial), answers.clone())));
     rows
 }
 
 /// The row and the column of what a reader answers.
 pub fn cell(judged: Result<Contents, Refused>) -> Cell {
     match judged {
-        Ok(_) => (READ.to_string(), "0".to_string()),
+        Ok(contents) => (read(contents.serial), "0".to_string()),
         Err(refused) => (
             refused.tag.map_or(END.to_string(), row),
             column(refused.place, refused.refusal),

@@ -48,9 +48,9 @@
 #include <stddef.h>
 #include <stdint.h>
 
-#define PERK_VERSION "0.1.0"
+#define PERK_VERSION "0.2.0"
 #define PERK_VERSION_MAJOR 0
-#define PERK_VERSION_MINOR 1
+#define PERK_VERSION_MINOR 2
 #define PERK_VERSION_PATCH 0
 
 /* results */

@@ -23,11 +23,15 @@ keyAt s at = record { n = getD s at 0; m = getD s (at + 1) 0 }
 abbrev pub keyOf : List ℕ → Key
 keyOf s = keyAt s 3
 
--- P5: "1, 2, 4, 5, 6 .. as above, for the field's content", and "19 when a four-byte serial is below 65,536"
+-- "a four-byte serial is below 65,536"
+abbrev pub longSerial : List ℕ → Bool
+longSerial c = eqb (length c) 4 && ltb (fromBytes c) 65536
+
+-- P5: "1, 2, 4, 5, 6 .. as above, for the field's content", and 19
 abbrev pub valueTests : Level → Kind → List ℕ → List (Bool × ℕ)
 valueTests l Sizes c = sizes l (keyAt c 0)
 valueTests l Elements c = (not (within l (words c)), 4) ∷ []
-valueTests l Serial c = (eqb (length c) 4 && ltb (fromBytes c) 65536, 19) ∷ []
+valueTests l Serial c = (longSerial c, 19) ∷ []
 valueTests l Bits c = (not (below 1 c), 5) ∷ []
 valueTests l Coordinates c = (not (within l (words c)), 6) ∷ []
 

@@ -1,19 +1,17 @@
 // The fields of packages and check files of the specification: their rows, the tests of each, and where a content stands.
 ghost use mathlib.Core.Path.{_≡_};
-ghost use mathlib.Core.Bool.{_&&_};
 ghost use mathlib.Core.List.{List, [], _∷_};
 ghost use Prim.Native.Nat.{_+_, _-_, _≤_, _<_};
-ghost use lib.Dec.{ltb, eqb};
 ghost use lib.ListN.{length};
 ghost use Rattle.refusal.specs.Answer.{firstOf};
-ghost use Rattle.copying.specs.Words.{word, words, fromBytes};
+ghost use Rattle.copying.specs.Words.{word, words};
 ghost use Rattle.field.specs.declared.Level.{Level};
 ghost use Rattle.field.specs.Level.{FIRST, levelAt};
 ghost use Rattle.field.specs.Word.{within};
 ghost use Rattle.key.specs.Key.{Sized};
 ghost use Rattle.layout.specs.declared.Row.{Row};
 ghost use Rattle.layout.specs.Layout.{serialLength, groupRows, checkRows, keyTests, keyEnd};
-ghost use Rattle.layout.specs.Tests.{keyAt, valueTests, rowTests, endTests, partOf};
+ghost use Rattle.layout.specs.Tests.{keyAt, longSerial, valueTests, rowTests, endTests, partOf};
 ghost use Rattle.layout.specs.Steps.{Whole, stepped, outcome, further};
 use field::FIRST;
 use field::Level;
@@ -111,7 +109,7 @@ fn words_within(c: &[u8]) -> bool
 
 // Whether a serial has four bytes and would fit two.
 fn long_serial(c: &[u8]) -> bool
-    ensures { λ r. ⌜ r ≡ (eqb (length (now (c .entry))) 4 && ltb (fromBytes (now (c .entry))) 65536) ⌝ }
+    ensures { λ r. ⌜ r ≡ longSerial (now (c .entry)) ⌝ }
 {
     if c.len() != 4 {
         return false;

@@ -97,7 +97,12 @@ from-lt (x₀ ∷ x₁ ∷ x₂ ∷ x₃ ∷ []) b h = omega (arith, b 0, b 1, b
 from-lt (x₀ ∷ x₁ ∷ x₂ ∷ x₃ ∷ x₄ ∷ c) b h = absurd (omega arith)
 
 -- the lowest 32 bits of what comes before decide those of the number
-pub from-low : (v w : ℕ) (c : List ℕ) → v % 4294967296 ≡ w % 4294967296 → fromBytesAfter v c % 4294967296 ≡ fromBytesAfter w c % 4294967296
+from-low : (v w : ℕ) (c : List ℕ) → v % 4294967296 ≡ w % 4294967296 → fromBytesAfter v c % 4294967296 ≡ fromBytesAfter w c % 4294967296
 unfolding fromBytesAfter
 from-low v w [] h = h
 from-low v w (x ∷ c) h = from-low (v * 256 + x) (w * 256 + x) c (omega arith)
+
+-- one byte taken, where y is what then comes before
+pub from-more : (v b y : ℕ) {c t : List ℕ} {n : ℕ} → c ≡ b ∷ t → fromBytesAfter v c % 4294967296 ≡ n → y % 4294967296 ≡ (v * 256 + b) % 4294967296 → fromBytesAfter y t % 4294967296 ≡ n
+unfolding fromBytesAfter
+from-more v b y {c} {t} e f h = from-low y (v * 256 + b) t h ∙ ap (λ s. fromBytesAfter v s % 4294967296) (sym e) ∙ f

@@ -7,7 +7,7 @@ use lib.ListN.{length, drop, drop-of-length-le}
 use lib.Seq.{drop-cons}
 use borrow.Author.Needs.{needs}
 use Rattle.copying.specs.Words.{fromBytesAfter, fromBytes}
-use Rattle.copying.proofs.Bytes.{from-low}
+use Rattle.copying.proofs.Bytes.{from-more}
 use Rattle.copying.proofs.from_bytes.Statement.{statement}
 use Rattle.copying.proofs.from_bytes.Tie as tie
 
@@ -39,14 +39,12 @@ loop-less : tie.Need-loop-less Inv-loop μ-loop
 loop-less c = omega arith
 
 loop-again : tie.Need-loop-again Inv-loop μ-loop
-unfolding fromBytesAfter
 loop-again c =
     let l = c .before .before .before .loop in
     let s = c .before .before .before .before .before .args .c .now in
     let b = c .wide .result in
     let rest : drop (l .i) s ≡ b ∷ drop (l .i + 1) s = rw (add-one (l .i)) (drop-cons s (l .i) 0 (omega arith) ∙ ap (λ (x : ℕ). x ∷ drop (suc (l .i)) s) (sym (c .wide .ensures .0))) in
-    let low : (l .x % 16777216 * 256 + b) % 4294967296 ≡ (l .x * 256 + b) % 4294967296 = omega arith in
-    (omega (arith, c .wide .ensures .1), from-low (l .x % 16777216 * 256 + b) (l .x * 256 + b) (drop (l .i + 1) s) low ∙ ap (λ t. fromBytesAfter (l .x) t % 4294967296) (sym rest) ∙ l .inv .1)
+    (omega (arith, c .wide .ensures .1), from-more (l .x) b _ rest (l .inv .1) (omega arith))
 
 cast-result : tie.Need-cast-result Inv-loop μ-loop
 cast-result c = omega arith

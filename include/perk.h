@@ -14,8 +14,8 @@
  *
  *     if (perk_verify(..) == PERK_ACCEPTED) ..       and not: if (perk_verify(..)) ..
  *
- * Any other number is a refusal, 1 to 12 or 19, and then every output holds what it held before. Refusals are tried in
- * the order in which a function lists them; the first that applies is the result. Sizes and lengths are decided before
+ * Any other number is a refusal, 1 to 12, 14 or 19, and then every output holds what it held before. Refusals are tried
+ * in the order in which a function lists them; the first that applies is the result. Sizes and lengths are decided before
  * any slice is read, so that a length in bytes for one in words is refused with 3; this is tested, and not part of the
  * proof.
  *
@@ -23,12 +23,13 @@
  * of K is PERK_ELEMENT_WORDS = 12 words, coordinate 0 first, each an element of F, with Y^12 = Y^3 + 1; several elements
  * stand one after another. Sums are bitwise exclusive or.
  *
- * A key is n, m, H and x: n is 2 to 64, m is 1 to n - 1, H has m rows of n elements of F, row after row, and x has n
- * elements of F. d = PERK_DIGITS(n) is the number of binary digits of n - 1. Bits, offsets and q have d places for each
- * of n rows, row after row, place 0 (the highest digit) first.
+ * A key is n, m, H, x and y: n is 2 to 64, m is 1 to n - 1, H has m rows of n elements of F, row after row, x has n
+ * elements of F, and the target y has m. d = PERK_DIGITS(n) is the number of binary digits of n - 1. Bits, offsets and q
+ * have d places for each of n rows, row after row, place 0 (the highest digit) first.
  *
  * Positions. Position i says which entry of x becomes entry i: x'(i) = x(position i). Positions solve a key when they are
- * 0 to n - 1, each once, and H x' is zero.
+ * 0 to n - 1, each once, and H x', H times x in the order of the positions, equals y. For a key without a target lend m
+ * zeros as y.
  *
  * Threads. The library has no state: no variable outlives a call, and any number of calls may run at the same time, as
  * long as no output of one is a slice of another. It takes no memory from the heap and calls no operating system.
@@ -48,9 +49,9 @@
 #include <stddef.h>
 #include <stdint.h>
 
-#define PERK_VERSION "0.2.0"
+#define PERK_VERSION "0.3.0"
 #define PERK_VERSION_MAJOR 0
-#define PERK_VERSION_MINOR 2
+#define PERK_VERSION_MINOR 3
 #define PERK_VERSION_PATCH 0
 
 /* results */
@@ -62,7 +63,7 @@
 #define PERK_SIZE_N 1        /* n is below 2 or above 64 */
 #define PERK_SIZE_M 2        /* m is 0, or at least n */
 #define PERK_SLICE_LENGTH 3  /* a slice, input or output, is not of its stated length */
-#define PERK_KEY_ELEMENT 4   /* an element of H or x is above 2047 */
+#define PERK_KEY_ELEMENT 4   /* an element of H, x or y is above 2047 */
 #define PERK_BIT 5           /* a byte of u or t is above 1 */
 #define PERK_COORDINATE 6    /* a coordinate of an element of K is above 2047 */
 #define PERK_POSITION 7      /* a position is 2^d or more */
@@ -71,6 +72,7 @@
 #define PERK_TAG 10          /* not the tag that comes next */
 #define PERK_FIELD_LENGTH 11 /* not a length that the field has for these sizes */
 #define PERK_BYTES_FOLLOW 12 /* bytes follow the last field */
+#define PERK_ZERO_TARGET 14  /* field 04 is present and all its elements are zero */
 #define PERK_LONG_SERIAL 19  /* a serial of four bytes is below 65536, so that it fits two */
 
 /* d, for n from 2 to 64; a constant expression where n is one */
@@ -80,6 +82,7 @@
 #define PERK_ELEMENT_WORDS 12
 #define PERK_H_WORDS(n, m) ((m) * (n))
 #define PERK_X_WORDS(n) (n)
+#define PERK_Y_WORDS(m) (m)
 #define PERK_POSITIONS_BYTES(n) (n)
 #define PERK_U_BYTES(n) ((n) * PERK_DIGITS(n))
 #define PERK_V_WORDS(n) (12 * (n) * PERK_DIGITS(n))
@@ -97,18 +100,24 @@
 /* length of a serial, 0 to 4294967295: two bytes where it fits them, else four */
 #define PERK_SERIAL_BYTES(serial) ((serial) >> 16 ? 4 : 2)
 
-/* lengths of files: of one with these sizes and this serial, and of the largest */
-#define PERK_PACKAGE_BYTES(n, m, serial) \
-    (20 + 2 * (m) * (n) + 2 * (n) + PERK_SERIAL_BYTES(serial) + (n) * PERK_DIGITS(n) + 24 * PERK_DIGITS(n))
-#define PERK_CHECK_FILE_BYTES(n, m, serial) \
-    (PERK_PACKAGE_BYTES(n, m, serial) + 36 + 24 * (n) * PERK_DIGITS(n) + 24 * (PERK_DIGITS(n) - 1) + 24 * ((n) + (m)))
-#define PERK_LARGEST_PACKAGE_BYTES 8744
-#define PERK_LARGEST_CHECK_FILE_BYTES 21164
+/*
+ * lengths of files: of one with these sizes and this serial, and of the largest; target is 1 where some element of y is
+ * not zero, and 0 where all are, and field 04 is left out
+ */
+#define PERK_PACKAGE_BYTES(n, m, target, serial) \
+    (20 + 2 * (m) * (n) + 2 * (n) + ((target) ? 3 + 2 * (m) : 0) + PERK_SERIAL_BYTES(serial) + (n) * PERK_DIGITS(n) + \
+     24 * PERK_DIGITS(n))
+#define PERK_CHECK_FILE_BYTES(n, m, target, serial) \
+    (PERK_PACKAGE_BYTES(n, m, target, serial) + 36 + 24 * (n) * PERK_DIGITS(n) + 24 * (PERK_DIGITS(n) - 1) + \
+     24 * ((n) + (m)))
+#define PERK_LARGEST_PACKAGE_BYTES 8873
+#define PERK_LARGEST_CHECK_FILE_BYTES 21293
 
 /* the tags of fields */
 #define PERK_TAG_SIZES 0x01
 #define PERK_TAG_H 0x02
 #define PERK_TAG_X 0x03
+#define PERK_TAG_Y 0x04
 #define PERK_TAG_SERIAL 0x05
 #define PERK_TAG_T 0x06
 #define PERK_TAG_A 0x07
@@ -149,15 +158,16 @@ uint32_t perk_product(const uint16_t *a, size_t a_len, const uint16_t *b, size_t
 /*
  * The masked witness and the n + m constraint polynomials of a key, from the prover's positions, mask bits u and offsets v.
  *
- *   h            m n words       x            n words       positions    n bytes, each below 2^d
+ *   h            m n words       x            n words       y            m words
+ *   positions    n bytes, each below 2^d
  *   u            n d bytes       v            12 n d words
  *   t            n d bytes, written: digit k of position i, highest first, exclusive-or u(i,k)
  *   polynomials  12 (n + m) (d + 1) words, written: polynomial 0 first, d + 1 coefficients each, that of X^0 first
  *
- * Positions from n to 2^d - 1 are taken. Refusals: 1, 2, 3 (all seven slices), 4 (h, x), 5 (u), 6 (v), 7.
+ * Positions from n to 2^d - 1 are taken. Refusals: 1, 2, 3 (all eight slices), 4 (h, x, y), 5 (u), 6 (v), 7.
  *
  * Proved of what is written: the top coefficients of all n + m polynomials are zero exactly when the positions are
- * 0 to n - 1, each once, and H times x in that order is zero; and wherever perk_values is given this key, this t, a
+ * 0 to n - 1, each once, and H times x in that order is y; and wherever perk_values is given this key, this t, a
  * challenge delta, and q with each q(i,k) = u(i,k) delta + v(i,k), value j is polynomial j at delta.
  *
  * No jump and no address depends on positions, u or v, other than the decision to refuse; this is tested, and not part
@@ -165,29 +175,30 @@ uint32_t perk_product(const uint16_t *a, size_t a_len, const uint16_t *b, size_t
  */
 PERK_LOOK_AT_RESULT
 uint32_t perk_constraints(size_t n, size_t m, const uint16_t *h, size_t h_len, const uint16_t *x, size_t x_len,
-                          const uint8_t *positions, size_t positions_len, const uint8_t *u, size_t u_len,
-                          const uint16_t *v, size_t v_len, uint8_t *t, size_t t_len,
+                          const uint16_t *y, size_t y_len, const uint8_t *positions, size_t positions_len,
+                          const uint8_t *u, size_t u_len, const uint16_t *v, size_t v_len, uint8_t *t, size_t t_len,
                           uint16_t *polynomials, size_t polynomials_len);
 
 /*
  * The verifier's n + m values of a key, from the masked witness t, the numbers q and the challenge delta.
  *
- *   h            m n words       x            n words       t            n d bytes
- *   q            12 n d words    delta        12 words
+ *   h            m n words       x            n words       y            m words
+ *   t            n d bytes       q            12 n d words  delta        12 words
  *   values       12 (n + m) words, written: value 0 first
  *
- * Refusals: 1, 2, 3 (all six slices), 4 (h, x), 5 (t), 6 (q, delta). Stack: under 6 KiB.
+ * Refusals: 1, 2, 3 (all seven slices), 4 (h, x, y), 5 (t), 6 (q, delta). Stack: under 6 KiB.
  */
 PERK_LOOK_AT_RESULT
 uint32_t perk_values(size_t n, size_t m, const uint16_t *h, size_t h_len, const uint16_t *x, size_t x_len,
-                     const uint8_t *t, size_t t_len, const uint16_t *q, size_t q_len,
+                     const uint16_t *y, size_t y_len, const uint8_t *t, size_t t_len, const uint16_t *q, size_t q_len,
                      const uint16_t *delta, size_t delta_len, uint16_t *values, size_t values_len);
 
 /*
  * The masked witness and the proof of a key, from the prover's positions, mask bits u and offsets v, the masks r and s,
  * and the weights alpha.
  *
- *   h            m n words       x            n words       positions    n bytes, each below 2^d
+ *   h            m n words       x            n words       y            m words
+ *   positions    n bytes, each below 2^d
  *   u            n d bytes       v            12 n d words
  *   r, s         12 (d - 1) words each, none where n is 2
  *   alpha        12 (n + m) words
@@ -195,11 +206,11 @@ uint32_t perk_values(size_t n, size_t m, const uint16_t *h, size_t h_len, const 
  *   a            12 d words, written: the d coefficients below X^d, that of X^0 first, of the sum of alpha(j) times
  *                polynomial j plus the sum over k below d - 1 of X^k (s(k) X + r(k))
  *
- * Refusals: 1, 2, 3 (all ten slices), 4 (h, x), 5 (u), 6 (v, r, s, alpha), 7, and then 8, found before anything is
- * written, whatever the weights are.
+ * Refusals: 1, 2, 3 (all eleven slices), 4 (h, x, y), 5 (u), 6 (v, r, s, alpha), 7, and then 8, found before anything
+ * is written, whatever the weights are.
  *
  * Proved besides: past 1 to 7 the result is 0 exactly when the positions are 0 to n - 1, each once, and H times x in that
- * order is zero, and 8 exactly when they are not; and wherever the result is 0, perk_verify accepts t and a with the same
+ * order is y, and 8 exactly when they are not; and wherever the result is 0, perk_verify accepts t and a with the same
  * key and weights, any challenge delta, each q(i,k) = u(i,k) delta + v(i,k) and each masks(k) = s(k) delta + r(k).
  *
  * No jump and no address depends on positions, u, v, r or s, other than the decision to refuse; this is tested, and not
@@ -207,19 +218,21 @@ uint32_t perk_values(size_t n, size_t m, const uint16_t *h, size_t h_len, const 
  */
 PERK_LOOK_AT_RESULT
 uint32_t perk_prove(size_t n, size_t m, const uint16_t *h, size_t h_len, const uint16_t *x, size_t x_len,
-                    const uint8_t *positions, size_t positions_len, const uint8_t *u, size_t u_len,
-                    const uint16_t *v, size_t v_len, const uint16_t *r, size_t r_len, const uint16_t *s, size_t s_len,
+                    const uint16_t *y, size_t y_len, const uint8_t *positions, size_t positions_len,
+                    const uint8_t *u, size_t u_len, const uint16_t *v, size_t v_len,
+                    const uint16_t *r, size_t r_len, const uint16_t *s, size_t s_len,
                     const uint16_t *alpha, size_t alpha_len, uint8_t *t, size_t t_len, uint16_t *a, size_t a_len);
 
 /*
  * Whether a proof is accepted: 0 exactly when a at the challenge equals the sum of alpha(j) times value j plus the sum over
  * k below d - 1 of delta^k masks(k), and 255 exactly when it does not; the power 0 is one, for delta zero too.
  *
- *   h            m n words       x            n words       t            n d bytes
- *   q            12 n d words    delta        12 words      masks        12 (d - 1) words
- *   alpha        12 (n + m) words                           a            12 d words
+ *   h            m n words       x            n words       y            m words
+ *   t            n d bytes       q            12 n d words  delta        12 words
+ *   masks        12 (d - 1) words                           a            12 d words
+ *   alpha        12 (n + m) words
  *
- * Refusals: 1, 2, 3 (all eight slices), 4 (h, x), 5 (t), 6 (q, delta, masks, alpha, a). Stack: under 12 KiB.
+ * Refusals: 1, 2, 3 (all nine slices), 4 (h, x, y), 5 (t), 6 (q, delta, masks, alpha, a). Stack: under 12 KiB.
  *
  * Accepted means that this equation holds. It does not by itself mean that a signature is valid: the challenge, the
  * weights and the correlations are the caller's, who must take the weights only after the prover's commitment to its
@@ -227,19 +240,20 @@ uint32_t perk_prove(size_t n, size_t m, const uint16_t *h, size_t h_len, const u
  */
 PERK_LOOK_AT_RESULT
 uint32_t perk_verify(size_t n, size_t m, const uint16_t *h, size_t h_len, const uint16_t *x, size_t x_len,
-                     const uint8_t *t, size_t t_len, const uint16_t *q, size_t q_len,
+                     const uint16_t *y, size_t y_len, const uint8_t *t, size_t t_len, const uint16_t *q, size_t q_len,
                      const uint16_t *delta, size_t delta_len, const uint16_t *masks, size_t masks_len,
                      const uint16_t *alpha, size_t alpha_len, const uint16_t *a, size_t a_len);
 
 /*
  * Packages and check files are fields one after another, each a tag of one byte, a length of two bytes and its content of
  * as many bytes; numbers are highest byte first. An element of F takes two bytes, one of K twelve elements of F.
- * A package has exactly the first six of these fields, in this order, and a check file all ten:
+ * A package has exactly the fields 01 to 07, in this order, and a check file all of them; 04 may be absent:
  *
  *   tag   content                            bytes            refusals of its values
  *   01    n, m, one byte each                2                1, 2
  *   02    H, row after row                   2 m n            4
  *   03    x                                  2 n              4
+ *   04    y, not all zero                    2 m              4, 14 (read where the byte after 03 is 04)
  *   05    the serial, 0 to 4294967295        2 or 4           19
  *   06    t, one byte for each bit           n d              5
  *   07    a                                  24 d             6
@@ -248,8 +262,10 @@ uint32_t perk_verify(size_t n, size_t m, const uint16_t *h, size_t h_len, const 
  *   13    delta                              24               6
  *   14    alpha                              24 (n + m)       6
  *
- * A serial takes two bytes where it fits them, up to 65535, and four otherwise. So each number has one form, and each
- * package too: four bytes with a number below 65536 are refused with 19, and any length other than 2 and 4 with 11.
+ * Where field 04 is absent y is all zero, and a y of zeros has no field: a 04 of zeros is refused with 14. After 03 the
+ * tags 04 and 05 may both come next. A serial takes two bytes where it fits them, up to 65535, and four otherwise: four
+ * bytes with a number below 65536 are refused with 19, and any length other than 2 and 4 with 11. So each package has
+ * one form.
  *
  * The readers try for each field in turn 9 (fewer than 3 bytes remain), 10, 11, 9 (fewer than the length remain) and the
  * refusals of its values, and after the last field 12. They read any number of bytes.
@@ -261,23 +277,25 @@ PERK_LOOK_AT_RESULT
 uint32_t perk_read_package(const uint8_t *bytes, size_t bytes_len, uint32_t *n, uint32_t *m, uint32_t *serial);
 
 /*
- * The same of a check file, whose first PERK_PACKAGE_BYTES(n, m, serial) bytes are a package. Stack: under 2 KiB.
+ * The same of a check file, whose first PERK_PACKAGE_BYTES(n, m, target, serial) bytes are a package; target is 1 exactly
+ * where the byte after field 03, the one at 11 + 2 m n + 2 n, is 04. Stack: under 2 KiB.
  */
 PERK_LOOK_AT_RESULT
 uint32_t perk_read_check_file(const uint8_t *bytes, size_t bytes_len, uint32_t *n, uint32_t *m, uint32_t *serial);
 
 /*
  * Where the content of the field with a tag stands in a package: returns its length, and start is its first byte's place
- * in bytes. 0, with start 0, for a package that perk_read_package refuses, a check file among these, or a tag that a
- * package does not have; no field of a package is empty. No refusal is told. start names a number of the caller's, not
- * within bytes. Stack: under 2 KiB.
+ * in bytes. 0, with start 0, for a package that perk_read_package refuses, a check file among these, or a tag that the
+ * package does not have, as 04 where y is all zero; no field of a package is empty. No refusal is told. start names a
+ * number of the caller's, not within bytes. Stack: under 2 KiB.
  */
 PERK_LOOK_AT_RESULT
 size_t perk_field(const uint8_t *bytes, size_t bytes_len, uint8_t tag, size_t *start);
 
 /*
  * Whether a check file's proof is accepted: the refusal of perk_read_check_file where there is one, else 0 or 255 as
- * perk_verify answers on the fields; none of its refusals then applies. Stack: under 40 KiB.
+ * perk_verify answers on the fields, with m zeros as y where 04 is absent; none of its refusals then applies.
+ * Stack: under 40 KiB.
  */
 PERK_LOOK_AT_RESULT
 uint32_t perk_check(const uint8_t *bytes, size_t bytes_len);
@@ -295,7 +313,7 @@ static inline const char *perk_refusal_text(uint32_t number) {
     case PERK_SIZE_N: return "n is below 2 or above 64";
     case PERK_SIZE_M: return "m is 0, or at least n";
     case PERK_SLICE_LENGTH: return "a slice is not of its stated length";
-    case PERK_KEY_ELEMENT: return "an element of H or x is above 2047";
+    case PERK_KEY_ELEMENT: return "an element of H, x or y is above 2047";
     case PERK_BIT: return "a byte of u or t is above 1";
     case PERK_COORDINATE: return "a coordinate of an element of K is above 2047";
     case PERK_POSITION: return "a position is 2^d or more";
@@ -304,6 +322,7 @@ static inline const char *perk_refusal_text(uint32_t number) {
     case PERK_TAG: return "a tag is not the one that comes next";
     case PERK_FIELD_LENGTH: return "a field's length is not one stated for it";
     case PERK_BYTES_FOLLOW: return "bytes follow the last field";
+    case PERK_ZERO_TARGET: return "field 04 is present and all its elements are zero";
     case PERK_LONG_SERIAL: return "a serial of four bytes is below 65536, so that it fits two";
     case PERK_REJECTED: return "rejected";
     default: return "no result of this library";

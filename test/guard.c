@@ -11,7 +11,7 @@
 #include <unistd.h>
 #include "perk.h"
 
-enum { N = 5, M = 2, D = 3, W = 12, MOST = 10, LENGTH = 3 };
+enum { N = 5, M = 2, D = 3, W = 12, MOST = 11, LENGTH = 3 };
 
 /* a slice: how many elements of which size it has, and the length that is told */
 struct slice {
@@ -24,26 +24,29 @@ struct slice {
 #define BYTES(s) (const uint8_t *)(s).start, (s).told
 #define WORDS_OUT(s) (uint16_t *)(s).start, (s).told
 #define BYTES_OUT(s) (uint8_t *)(s).start, (s).told
+/* the slices of a key, which come first */
+#define KEY(s) WORDS(s[0]), WORDS(s[1]), WORDS(s[2])
 
 static uint32_t sum(struct slice *s) { return perk_sum(WORDS(s[0]), WORDS(s[1]), WORDS_OUT(s[2])); }
 static uint32_t product(struct slice *s) { return perk_product(WORDS(s[0]), WORDS(s[1]), WORDS_OUT(s[2])); }
 static uint32_t constraints(struct slice *s) {
-    return perk_constraints(N, M, WORDS(s[0]), WORDS(s[1]), BYTES(s[2]), BYTES(s[3]), WORDS(s[4]), BYTES_OUT(s[5]), WORDS_OUT(s[6]));
+    return perk_constraints(N, M, KEY(s), BYTES(s[3]), BYTES(s[4]), WORDS(s[5]), BYTES_OUT(s[6]), WORDS_OUT(s[7]));
 }
 static uint32_t values(struct slice *s) {
-    return perk_values(N, M, WORDS(s[0]), WORDS(s[1]), BYTES(s[2]), WORDS(s[3]), WORDS(s[4]), WORDS_OUT(s[5]));
+    return perk_values(N, M, KEY(s), BYTES(s[3]), WORDS(s[4]), WORDS(s[5]), WORDS_OUT(s[6]));
 }
 static uint32_t prove(struct slice *s) {
-    return perk_prove(N, M, WORDS(s[0]), WORDS(s[1]), BYTES(s[2]), BYTES(s[3]), WORDS(s[4]), WORDS(s[5]), WORDS(s[6]), WORDS(s[7]),
-                      BYTES_OUT(s[8]), WORDS_OUT(s[9]));
+    return perk_prove(N, M, KEY(s), BYTES(s[3]), BYTES(s[4]), WORDS(s[5]), WORDS(s[6]), WORDS(s[7]), WORDS(s[8]), BYTES_OUT(s[9]),
+                      WORDS_OUT(s[10]));
 }
 static uint32_t verify(struct slice *s) {
-    return perk_verify(N, M, WORDS(s[0]), WORDS(s[1]), BYTES(s[2]), WORDS(s[3]), WORDS(s[4]), WORDS(s[5]), WORDS(s[6]), WORDS(s[7]));
+    return perk_verify(N, M, KEY(s), BYTES(s[3]), WORDS(s[4]), WORDS(s[5]), WORDS(s[6]), WORDS(s[7]), WORDS(s[8]));
 }
 
 #define F(count) {count, 2, NULL, 0}
 #define K(count) {W * (count), 2, NULL, 0}
 #define B(count) {count, 1, NULL, 0}
+#define OF_KEY F(M * N), F(N), F(M)
 
 static struct {
     const char *name;
@@ -52,10 +55,10 @@ static struct {
 } entries[] = {
     {"perk_sum", sum, {K(1), K(1), K(1)}},
     {"perk_product", product, {K(1), K(1), K(1)}},
-    {"perk_constraints", constraints, {F(M * N), F(N), B(N), B(N * D), K(N * D), B(N * D), K((N + M) * (D + 1))}},
-    {"perk_values", values, {F(M * N), F(N), B(N * D), K(N * D), K(1), K(N + M)}},
-    {"perk_prove", prove, {F(M * N), F(N), B(N), B(N * D), K(N * D), K(D - 1), K(D - 1), K(N + M), B(N * D), K(D)}},
-    {"perk_verify", verify, {F(M * N), F(N), B(N * D), K(N * D), K(1), K(D - 1), K(N + M), K(D)}},
+    {"perk_constraints", constraints, {OF_KEY, B(N), B(N * D), K(N * D), B(N * D), K((N + M) * (D + 1))}},
+    {"perk_values", values, {OF_KEY, B(N * D), K(N * D), K(1), K(N + M)}},
+    {"perk_prove", prove, {OF_KEY, B(N), B(N * D), K(N * D), K(D - 1), K(D - 1), K(N + M), B(N * D), K(D)}},
+    {"perk_verify", verify, {OF_KEY, B(N * D), K(N * D), K(1), K(D - 1), K(N + M), K(D)}},
 };
 
 /* zeros that end where a page begins that cannot be read */
@@ -77,16 +80,18 @@ static void read_to_end(const char *name, size_t len, uint32_t found, uint32_t s
     failed++;
 }
 
-/* the check file of n = 2, m = 1, H = (1 0) and x = (0 0) with this field of a serial; the fields after it are zero, weights and a too, so
-   that it is accepted */
-static void file(const uint8_t *serial, size_t serial_len) {
+/* the check file of n = 2, m = 1, H = (1 0) and x = (0 0) with this field of y or none, and this field of a serial; the fields after it are
+   zero, weights and a too, so that it is accepted */
+static void file(const uint8_t *y, size_t y_len, const uint8_t *serial, size_t serial_len) {
     static const uint8_t key[] = {PERK_TAG_SIZES, 0, 2, 2, 1, PERK_TAG_H, 0, 4, 0, 1, 0, 0, PERK_TAG_X, 0, 4, 0, 0, 0, 0};
     static const struct {
         uint8_t tag, length;
     } after[] = {{PERK_TAG_T, 2}, {PERK_TAG_A, 24}, {PERK_TAG_Q, 48}, {PERK_TAG_MASKS, 0}, {PERK_TAG_DELTA, 24}, {PERK_TAG_ALPHA, 72}};
-    uint8_t bytes[PERK_CHECK_FILE_BYTES(2, 1, 65536)] = {0};
+    uint8_t bytes[PERK_CHECK_FILE_BYTES(2, 1, 1, 65536)] = {0};
     size_t len = sizeof key, package_len = 0;
     memcpy(bytes, key, len);
+    if (y_len > 0) memcpy(bytes + len, y, y_len);
+    len += y_len;
     memcpy(bytes + len, serial, serial_len);
     len += serial_len;
     for (size_t i = 0; i < sizeof after / sizeof *after; i++) {
@@ -109,22 +114,27 @@ static void file(const uint8_t *serial, size_t serial_len) {
         read_to_end("perk_read_package", part, perk_read_package(from, part, &n, &m, &number), stated);
         uint32_t length = (uint32_t)perk_field(from, part, PERK_TAG_SERIAL, &start);
         read_to_end("perk_field", part, length, part == package_len ? (uint32_t)(serial_len - 3) : 0);
+        length = (uint32_t)perk_field(from, part, PERK_TAG_Y, &start);
+        read_to_end("perk_field", part, length, part == package_len && y_len > 0 ? (uint32_t)(y_len - 3) : 0);
     }
 }
 
 int main(void) {
     static const uint8_t short_serial[] = {PERK_TAG_SERIAL, 0, 2, 255, 255}, long_serial[] = {PERK_TAG_SERIAL, 0, 4, 0, 1, 0, 0};
-    file(short_serial, sizeof short_serial);
-    file(long_serial, sizeof long_serial);
+    static const uint8_t y[] = {PERK_TAG_Y, 0, 2, 7, 0};
+    for (size_t y_len = 0; y_len <= sizeof y; y_len += sizeof y) {
+        file(y, y_len, short_serial, sizeof short_serial);
+        file(y, y_len, long_serial, sizeof long_serial);
+    }
     for (size_t e = 0; e < sizeof entries / sizeof *entries; e++) {
         struct slice *s = entries[e].slices;
         size_t slices = 0;
         while (slices < MOST && s[slices].count > 0) place(&s[slices++]);
-        /* x is zero, so every order solves a key whose rows are unit rows; the third slice of a prover's entry holds the positions */
+        /* x and y are zero, so every order solves a key whose rows are unit rows; the fourth slice of a prover's entry holds the positions */
         if (slices > 3)
             for (size_t i = 0; i < M; i++) ((uint16_t *)s[0].start)[i * N + i] = 1;
-        if (s[2].count == N && s[2].size == 1)
-            for (size_t i = 0; i < N; i++) ((uint8_t *)s[2].start)[i] = (uint8_t)i;
+        if (s[3].count == N && s[3].size == 1)
+            for (size_t i = 0; i < N; i++) ((uint8_t *)s[3].start)[i] = (uint8_t)i;
         uint32_t right = entries[e].call(s);
         calls++;
         if (right != 0 && right != 255) {

@@ -9,12 +9,12 @@
 enum { N = 64, M = 63 };
 
 /* constant expressions */
-static uint16_t h[PERK_H_WORDS(N, M)], x[PERK_X_WORDS(N)], v[PERK_V_WORDS(N)], r[PERK_R_WORDS(N)], s[PERK_S_WORDS(N)];
+static uint16_t h[PERK_H_WORDS(N, M)], x[PERK_X_WORDS(N)], y[PERK_Y_WORDS(M)], v[PERK_V_WORDS(N)], r[PERK_R_WORDS(N)], s[PERK_S_WORDS(N)];
 static uint16_t alpha[PERK_ALPHA_WORDS(N, M)], polynomials[PERK_POLYNOMIALS_WORDS(N, M)], a[PERK_A_WORDS(N)], q[PERK_Q_WORDS(N)];
 static uint16_t delta[PERK_DELTA_WORDS], masks[PERK_MASKS_WORDS(N)], values[PERK_VALUES_WORDS(N, M)];
 static uint8_t positions[PERK_POSITIONS_BYTES(N)], u[PERK_U_BYTES(N)], t[PERK_T_BYTES(N)], bytes[PERK_LARGEST_CHECK_FILE_BYTES + 1];
-typedef char largest[PERK_PACKAGE_BYTES(N, M, 65536) == PERK_LARGEST_PACKAGE_BYTES &&
-                     PERK_CHECK_FILE_BYTES(N, M, 65536) == sizeof bytes - 1 ? 1 : -1];
+typedef char largest[PERK_PACKAGE_BYTES(N, M, 1, 65536) == PERK_LARGEST_PACKAGE_BYTES &&
+                     PERK_CHECK_FILE_BYTES(N, M, 1, 65536) == sizeof bytes - 1 ? 1 : -1];
 typedef char lengths[PERK_SERIAL_BYTES(0) == 2 && PERK_SERIAL_BYTES(65535) == 2 && PERK_SERIAL_BYTES(65536) == 4 &&
                      PERK_SERIAL_BYTES(4294967295) == 4 ? 1 : -1];
 
@@ -35,13 +35,18 @@ static size_t field(size_t at, uint8_t tag, size_t length) {
     return at + 3 + length;
 }
 
-/* the package of a key and a proof of zeros, with the serial in this many bytes */
-static size_t package(size_t n, size_t m, uint32_t serial, size_t serial_bytes) {
+/* the package of a key and a proof of zeros, with the serial in this many bytes; where there is a target y is (0, .., 0, 256), and else it is
+   absent */
+static size_t package(size_t n, size_t m, int target, uint32_t serial, size_t serial_bytes) {
     size_t at = field(0, PERK_TAG_SIZES, 2);
     bytes[at - 2] = (uint8_t)n;
     bytes[at - 1] = (uint8_t)m;
     at = field(at, PERK_TAG_H, 2 * PERK_H_WORDS(n, m));
     at = field(at, PERK_TAG_X, 2 * PERK_X_WORDS(n));
+    if (target) {
+        at = field(at, PERK_TAG_Y, 2 * PERK_Y_WORDS(m));
+        bytes[at - 2] = 1;
+    }
     at = field(at, PERK_TAG_SERIAL, serial_bytes);
     for (size_t i = 1; i <= serial_bytes; i++, serial >>= 8) bytes[at - i] = (uint8_t)(serial & 255);
     at = field(at, PERK_TAG_T, PERK_T_BYTES(n));
@@ -56,11 +61,11 @@ static size_t check_file(size_t n, size_t m, size_t at) {
     return field(at, PERK_TAG_ALPHA, 2 * PERK_ALPHA_WORDS(n, m));
 }
 
-/* the files of these sizes with this serial, as they are written and as they are read */
-static void files(size_t n, size_t m, uint32_t written) {
+/* the files of these sizes with and without a target and with this serial, as they are written and as they are read */
+static void files(size_t n, size_t m, int target, uint32_t written) {
     uint32_t read_n = 0, read_m = 0, serial = ~written;
-    size_t start, of_package = package(n, m, written, PERK_SERIAL_BYTES(written));
-    expect("length of a package", n, m, of_package == PERK_PACKAGE_BYTES(n, m, written) ? PERK_DONE : PERK_SLICE_LENGTH, PERK_DONE);
+    size_t start, of_package = package(n, m, target, written, PERK_SERIAL_BYTES(written));
+    expect("length of a package", n, m, of_package == PERK_PACKAGE_BYTES(n, m, target, written) ? PERK_DONE : PERK_SLICE_LENGTH, PERK_DONE);
     expect("read package", n, m, perk_read_package(bytes, of_package, &read_n, &read_m, &serial), PERK_DONE);
     expect("sizes", n, m, read_n == n && read_m == m && serial == written ? PERK_DONE : PERK_REJECTED, PERK_DONE);
     size_t length = perk_field(bytes, of_package, PERK_TAG_SERIAL, &start);
@@ -68,12 +73,16 @@ static void files(size_t n, size_t m, uint32_t written) {
     uint32_t found = 0;
     for (size_t i = 0; i < length; i++) found = found << 8 | bytes[start + i];
     expect("bytes of the serial", n, m, found == written ? PERK_DONE : PERK_REJECTED, PERK_DONE);
+    length = perk_field(bytes, of_package, PERK_TAG_Y, &start);
+    expect("field y", n, m, length == (target ? 2 * PERK_Y_WORDS(m) : 0) && (start == 0) == !target ? PERK_DONE : PERK_REJECTED, PERK_DONE);
+    size_t after_x = 11 + 2 * m * n + 2 * n;
+    expect("byte after x", n, m, bytes[after_x] == (target ? PERK_TAG_Y : PERK_TAG_SERIAL) ? PERK_DONE : PERK_REJECTED, PERK_DONE);
     length = perk_field(bytes, of_package, PERK_TAG_A, &start);
     expect("field", n, m, length == 2 * PERK_A_WORDS(n) && start + length == of_package ? PERK_DONE : PERK_REJECTED, PERK_DONE);
 
     size_t at = check_file(n, m, of_package);
     serial = ~written;
-    expect("length of a check file", n, m, at == PERK_CHECK_FILE_BYTES(n, m, written) ? PERK_DONE : PERK_SLICE_LENGTH, PERK_DONE);
+    expect("length of a check file", n, m, at == PERK_CHECK_FILE_BYTES(n, m, target, written) ? PERK_DONE : PERK_SLICE_LENGTH, PERK_DONE);
     expect("read check file", n, m, perk_read_check_file(bytes, at, &read_n, &read_m, &serial), PERK_DONE);
     expect("its serial", n, m, serial == written ? PERK_DONE : PERK_REJECTED, PERK_DONE);
     expect("check", n, m, perk_check(bytes, at), PERK_ACCEPTED);
@@ -91,7 +100,7 @@ static void files(size_t n, size_t m, uint32_t written) {
 /* a serial that fits two bytes, in four: a file has no second form */
 static void long_form(size_t n, size_t m, uint32_t written) {
     uint32_t kept[3] = {7, 8, 9};
-    size_t start = 5, of_package = package(n, m, written, 4);
+    size_t start = 5, of_package = package(n, m, 0, written, 4);
     expect("13", n, m, perk_read_package(bytes, of_package, &kept[0], &kept[1], &kept[2]), PERK_LONG_SERIAL);
     expect("its field", n, m, perk_field(bytes, of_package, PERK_TAG_SERIAL, &start) == 0 && start == 0 ? PERK_DONE : PERK_REJECTED, PERK_DONE);
     size_t at = check_file(n, m, of_package);
@@ -100,46 +109,73 @@ static void long_form(size_t n, size_t m, uint32_t written) {
     expect("n, m and serial kept", n, m, kept[0] == 7 && kept[1] == 8 && kept[2] == 9 ? PERK_DONE : PERK_REJECTED, PERK_DONE);
 }
 
+/* a field y of zeros, and one with an element above 2047 */
+static void wrong_targets(size_t n, size_t m) {
+    uint32_t kept[3] = {7, 8, 9};
+    size_t start = 5, of_package = package(n, m, 1, 7, 2), last = 11 + 2 * m * n + 2 * n + 3 + 2 * m - 2;
+    bytes[last] = 0;
+    expect("16", n, m, perk_read_package(bytes, of_package, &kept[0], &kept[1], &kept[2]), PERK_ZERO_TARGET);
+    expect("its field y", n, m, perk_field(bytes, of_package, PERK_TAG_Y, &start) == 0 && start == 0 ? PERK_DONE : PERK_REJECTED, PERK_DONE);
+    size_t at = check_file(n, m, of_package);
+    expect("17", n, m, perk_check(bytes, at), PERK_ZERO_TARGET);
+    bytes[last] = 8;
+    expect("18", n, m, perk_read_check_file(bytes, at, &kept[0], &kept[1], &kept[2]), PERK_KEY_ELEMENT);
+    expect("n, m and serial kept", n, m, kept[0] == 7 && kept[1] == 8 && kept[2] == 9 ? PERK_DONE : PERK_REJECTED, PERK_DONE);
+}
+
 static void sizes(size_t n, size_t m) {
     static const uint32_t serials[] = {0, 1, 255, 256, 65535, 65536, 65537, 16777216, 4294967295};
-    /* H is zero, so that the order 0, 1, .. solves the key */
-    expect("constraints", n, m, perk_constraints(n, m, h, PERK_H_WORDS(n, m), x, PERK_X_WORDS(n), positions, PERK_POSITIONS_BYTES(n), u,
+    /* H and y are zero, so that the order 0, 1, .. solves the key */
+    expect("constraints", n, m, perk_constraints(n, m, h, PERK_H_WORDS(n, m), x, PERK_X_WORDS(n), y, PERK_Y_WORDS(m), positions, PERK_POSITIONS_BYTES(n), u,
            PERK_U_BYTES(n), v, PERK_V_WORDS(n), t, PERK_T_BYTES(n), polynomials, PERK_POLYNOMIALS_WORDS(n, m)), PERK_DONE);
-    expect("values", n, m, perk_values(n, m, h, PERK_H_WORDS(n, m), x, PERK_X_WORDS(n), t, PERK_T_BYTES(n), q, PERK_Q_WORDS(n), delta,
+    expect("values", n, m, perk_values(n, m, h, PERK_H_WORDS(n, m), x, PERK_X_WORDS(n), y, PERK_Y_WORDS(m), t, PERK_T_BYTES(n), q, PERK_Q_WORDS(n), delta,
            PERK_DELTA_WORDS, values, PERK_VALUES_WORDS(n, m)), PERK_DONE);
-    expect("prove", n, m, perk_prove(n, m, h, PERK_H_WORDS(n, m), x, PERK_X_WORDS(n), positions, PERK_POSITIONS_BYTES(n), u,
+    expect("prove", n, m, perk_prove(n, m, h, PERK_H_WORDS(n, m), x, PERK_X_WORDS(n), y, PERK_Y_WORDS(m), positions, PERK_POSITIONS_BYTES(n), u,
            PERK_U_BYTES(n), v, PERK_V_WORDS(n), r, PERK_R_WORDS(n), s, PERK_S_WORDS(n), alpha, PERK_ALPHA_WORDS(n, m), t,
            PERK_T_BYTES(n), a, PERK_A_WORDS(n)), PERK_DONE);
-    expect("verify", n, m, perk_verify(n, m, h, PERK_H_WORDS(n, m), x, PERK_X_WORDS(n), t, PERK_T_BYTES(n), q, PERK_Q_WORDS(n), delta,
+    expect("verify", n, m, perk_verify(n, m, h, PERK_H_WORDS(n, m), x, PERK_X_WORDS(n), y, PERK_Y_WORDS(m), t, PERK_T_BYTES(n), q, PERK_Q_WORDS(n), delta,
            PERK_DELTA_WORDS, masks, PERK_MASKS_WORDS(n), alpha, PERK_ALPHA_WORDS(n, m), a, PERK_A_WORDS(n)), PERK_ACCEPTED);
 
     for (size_t i = 0; i < sizeof serials / sizeof *serials; i++) {
-        files(n, m, serials[i]);
+        files(n, m, 0, serials[i]);
+        files(n, m, 1, serials[i]);
         if (PERK_SERIAL_BYTES(serials[i]) < 4) long_form(n, m, serials[i]);
     }
 
-    expect("5", n, m, perk_values(65, m, h, 0, x, 0, t, 0, q, 0, delta, 0, values, 0), PERK_SIZE_N);
-    expect("6", n, m, perk_values(n, n, h, 0, x, 0, t, 0, q, 0, delta, 0, values, 0), PERK_SIZE_M);
-    expect("7", n, m, perk_values(n, m, h, 0, x, 0, t, 0, q, 0, delta, 0, values, 0), PERK_SLICE_LENGTH);
+    wrong_targets(n, m);
+
+    expect("5", n, m, perk_values(65, m, h, 0, x, 0, y, 0, t, 0, q, 0, delta, 0, values, 0), PERK_SIZE_N);
+    expect("6", n, m, perk_values(n, n, h, 0, x, 0, y, 0, t, 0, q, 0, delta, 0, values, 0), PERK_SIZE_M);
+    expect("7", n, m, perk_values(n, m, h, 0, x, 0, y, 0, t, 0, q, 0, delta, 0, values, 0), PERK_SLICE_LENGTH);
 }
 
 /* constraints and prove at n = 2, m = 1 with one number changed */
 static void material(void) {
     static const uint8_t order[2] = {0, 1}, twice[2] = {0, 0}, large[2] = {0, 2}, bits[2] = {0, 2};
-    static const uint16_t small[2] = {0, 0}, above[24] = {2048}, element[24] = {0};
+    static const uint16_t small[2] = {0, 0}, one[1] = {1}, above[24] = {2048}, element[24] = {0};
     uint8_t out[2];
     uint16_t proof[12];
-    expect("8", 2, 1, perk_prove(2, 1, above, 2, small, 2, order, 2, order, 2, element, 24, r, 0, s, 0, alpha, 36, out, 2, proof, 12), PERK_KEY_ELEMENT);
-    expect("9", 2, 1, perk_prove(2, 1, small, 2, small, 2, order, 2, bits, 2, element, 24, r, 0, s, 0, alpha, 36, out, 2, proof, 12), PERK_BIT);
-    expect("10", 2, 1, perk_prove(2, 1, small, 2, small, 2, order, 2, order, 2, above, 24, r, 0, s, 0, alpha, 36, out, 2, proof, 12), PERK_COORDINATE);
-    expect("11", 2, 1, perk_prove(2, 1, small, 2, small, 2, large, 2, order, 2, element, 24, r, 0, s, 0, alpha, 36, out, 2, proof, 12), PERK_POSITION);
-    expect("12", 2, 1, perk_prove(2, 1, small, 2, small, 2, twice, 2, order, 2, element, 24, r, 0, s, 0, alpha, 36, out, 2, proof, 12), PERK_TOP);
+    expect("8", 2, 1, perk_prove(2, 1, above, 2, small, 2, small, 1, order, 2, order, 2, element, 24, r, 0, s, 0, alpha, 36, out, 2, proof, 12),
+           PERK_KEY_ELEMENT);
+    expect("9", 2, 1, perk_prove(2, 1, small, 2, small, 2, small, 1, order, 2, bits, 2, element, 24, r, 0, s, 0, alpha, 36, out, 2, proof, 12),
+           PERK_BIT);
+    expect("10", 2, 1, perk_prove(2, 1, small, 2, small, 2, small, 1, order, 2, order, 2, above, 24, r, 0, s, 0, alpha, 36, out, 2, proof, 12),
+           PERK_COORDINATE);
+    expect("11", 2, 1, perk_prove(2, 1, small, 2, small, 2, small, 1, large, 2, order, 2, element, 24, r, 0, s, 0, alpha, 36, out, 2, proof, 12),
+           PERK_POSITION);
+    expect("12", 2, 1, perk_prove(2, 1, small, 2, small, 2, small, 1, twice, 2, order, 2, element, 24, r, 0, s, 0, alpha, 36, out, 2, proof, 12),
+           PERK_TOP);
+    /* y above 2047, and one that no order reaches */
+    expect("19", 2, 1, perk_prove(2, 1, small, 2, small, 2, above, 1, order, 2, order, 2, element, 24, r, 0, s, 0, alpha, 36, out, 2, proof, 12),
+           PERK_KEY_ELEMENT);
+    expect("20", 2, 1, perk_prove(2, 1, small, 2, small, 2, one, 1, order, 2, order, 2, element, 24, r, 0, s, 0, alpha, 36, out, 2, proof, 12),
+           PERK_TOP);
 }
 
-/* each of 0 to 12, 19 and 255 has a text, and no two the same; every other number has one text */
+/* each of 0 to 12, 14, 19 and 255 has a text, and no two the same; every other number has one text */
 static void texts(void) {
-    static const uint32_t numbers[] = {0, 1, 2, 3, 4, 5, 6, 7, 8, 9, 10, 11, 12, 19, 255, 13};
-    static const uint32_t others[] = {14, 15, 16, 17, 18, 20, 254, 256, UINT32_MAX};
+    static const uint32_t numbers[] = {0, 1, 2, 3, 4, 5, 6, 7, 8, 9, 10, 11, 12, 14, 19, 255, 13};
+    static const uint32_t others[] = {15, 16, 17, 18, 20, 254, 256, UINT32_MAX};
     size_t count = sizeof numbers / sizeof *numbers;
     for (size_t i = 0; i < count; i++)
         for (size_t j = 0; j < i; j++)

@@ -4,7 +4,7 @@
 
 /* a slice of length 0, and a key of such slices */
 #define NONE NULL, 0
-#define KEY n, 1, NONE, NONE
+#define KEY n, 1, NONE, NONE, NONE
 
 static int failed;
 

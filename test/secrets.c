@@ -21,9 +21,9 @@
 enum { N = 64, D = 6, W = 12 };
 
 /* the key, as both functions take it */
-#define KEY n, m, h, m * n, x, n
+#define KEY n, m, h, m * n, x, n, y, m
 
-static uint16_t h[(N - 1) * N], x[N], v[W * N * D], r[W * D], s[W * D], alpha[W * 2 * N];
+static uint16_t h[(N - 1) * N], x[N], y[N - 1], v[W * N * D], r[W * D], s[W * D], alpha[W * 2 * N];
 static uint16_t a[W * D], polynomials[W * 2 * N * (D + 1)];
 static uint8_t positions[N], u[N * D], t[N * D];
 static uint32_t state = 2463534242u;
@@ -42,8 +42,8 @@ static void fill(uint16_t *words, size_t count) {
 }
 
 /*
- * x has one value and each row of H the sum zero: every order solves the key. Row e has no entry but zero before column e, and one that
- * is not zero there, so no row is a sum of multiples of the others; e is below n - 1.
+ * x is all one and y(e) the sum of row e of H, zero where e is odd: every order solves the key. Row e has no entry but zero before column
+ * e, and one that is not zero there, so no row is a sum of multiples of the others; e is below n - 1.
  */
 static void make_key(size_t n, size_t m) {
     for (size_t e = 0; e < m; e++) {
@@ -51,10 +51,10 @@ static void make_key(size_t n, size_t m) {
         row[e] = sum = (uint16_t)(1 + below(2047));
         fill(row + e + 1, n - e - 2);
         for (size_t i = e + 1; i + 1 < n; i++) sum ^= row[i];
-        row[n - 1] = sum;
+        y[e] = (uint16_t)(e % 2 == 0 ? 1 + below(2047) : 0);
+        row[n - 1] = sum ^ y[e];
     }
-    uint16_t value = (uint16_t)(1 + below(2047));
-    for (size_t i = 0; i < n; i++) x[i] = value;
+    for (size_t i = 0; i < n; i++) x[i] = 1;
 }
 
 static void make_order(size_t n) {

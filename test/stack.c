@@ -1,8 +1,8 @@
 /*
  * The stack that each function of perk.h takes at the largest sizes, by painting a thread's stack before the call: prints it, and
- * fails where it is above what perk.h states. Files are taken with a serial of four bytes and with one of two.
+ * fails where it is above what perk.h states. Files are taken with y and a serial of four bytes, then with one of two, and without y.
  *
- * usage: stack CHECK_FILE    (an accepted check file with n = 64, m = 63 and a serial of four bytes)
+ * usage: stack CHECK_FILE    (an accepted check file with n = 64, m = 63, y and a serial of four bytes)
  */
 #include <pthread.h>
 #include <stdio.h>
@@ -12,13 +12,13 @@
 
 enum { N = 64, M = 63, D = 6, W = 12, SIZE = 1 << 20, PAINT = 0xA5 };
 
-static uint16_t h[M * N], x[N], v[W * N * D], r[W * (D - 1)], s[W * (D - 1)], alpha[W * (N + M)], a[W * D], q[W * N * D];
+static uint16_t h[M * N], x[N], y[M], v[W * N * D], r[W * (D - 1)], s[W * (D - 1)], alpha[W * (N + M)], a[W * D], q[W * N * D];
 static uint16_t delta[W], masks[W * (D - 1)], polynomials[W * (N + M) * (D + 1)], values[W * (N + M)], out[W];
 static uint8_t positions[N], u[N * D], t[N * D], file[32768];
 static size_t file_len, package_len;
 
 /* the key, as every function with a key takes it */
-#define KEY N, M, h, M * N, x, N
+#define KEY N, M, h, M * N, x, N, y, M
 
 static uint32_t nothing(void) { return 0; }
 static uint32_t sum(void) { return perk_sum(delta, W, delta, W, out, W); }
@@ -81,13 +81,25 @@ static size_t head_of(uint8_t tag) {
     return at + 3 < file_len ? at : file_len;
 }
 
+/* takes bytes from the file */
+static void take(size_t at, size_t count) {
+    memmove(file + at, file + at + count, file_len - at - count);
+    file_len -= count;
+}
+
 /* takes two bytes from the serial */
 static void shorten_serial(void) {
     size_t at = head_of(PERK_TAG_SERIAL);
     if (at == file_len || file[at + 2] != 4) exit(2);
     file[at + 2] = 2;
-    memmove(file + at + 3, file + at + 5, file_len - at - 5);
-    file_len -= 2;
+    take(at + 3, 2);
+}
+
+/* takes the field y, so that the file is rejected */
+static void remove_y(void) {
+    size_t at = head_of(PERK_TAG_Y);
+    if (at == file_len) exit(2);
+    take(at, 3 + 2 * M);
 }
 
 int main(int argc, char **argv) {
@@ -111,7 +123,7 @@ int main(int argc, char **argv) {
     if (input == NULL) return 2;
     file_len = fread(file, 1, sizeof file, input);
     fclose(input);
-    /* H has unit rows and x is zero, so that every order solves the key; the other numbers are any within the limit, and a and the masks
+    /* H has unit rows, x and y are zero, so that every order solves the key; the other numbers are any within the limit, and a and the masks
        are zero */
     for (int e = 0; e < M; e++) h[e * N + e] = 1;
     for (int i = 0; i < N; i++) positions[i] = (uint8_t)i;
@@ -120,8 +132,9 @@ int main(int argc, char **argv) {
 
     int failed = 0;
     size_t base = used(nothing);
-    for (int shorter = 0; shorter < 2; shorter++) {
-        if (shorter) shorten_serial();
+    for (int shorter = 0; shorter < 3; shorter++) {
+        if (shorter == 1) shorten_serial();
+        if (shorter == 2) remove_y();
         /* the package ends where the field with the tag of q starts */
         package_len = head_of(PERK_TAG_Q);
         for (size_t i = shorter ? FILES : 0; i < sizeof calls / sizeof *calls; i++) {

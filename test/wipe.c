@@ -11,7 +11,7 @@
 /* ROOM is the stack that perk.h states for perk_prove; FRAME is room for the caller's own frame */
 enum { N = 64, M = 27, SIZE = 1 << 18, ROOM = 24 * 1024, FRAME = 256 };
 
-static uint16_t h[PERK_H_WORDS(N, M)], x[PERK_X_WORDS(N)], v[PERK_V_WORDS(N)], r[PERK_R_WORDS(N)], s[PERK_S_WORDS(N)];
+static uint16_t h[PERK_H_WORDS(N, M)], x[PERK_X_WORDS(N)], y[PERK_Y_WORDS(M)], v[PERK_V_WORDS(N)], r[PERK_R_WORDS(N)], s[PERK_S_WORDS(N)];
 static uint16_t alpha[PERK_ALPHA_WORDS(N, M)], a[PERK_A_WORDS(N)];
 static uint8_t positions[N], u[PERK_U_BYTES(N)], t[PERK_T_BYTES(N)];
 static int wiping;
@@ -26,7 +26,7 @@ static void __attribute__((noinline)) wipe(void) {
 
 static void *run(void *unused) {
     caller = __builtin_frame_address(0);
-    result = perk_prove(N, M, h, PERK_H_WORDS(N, M), x, N, positions, N, u, sizeof u, v, PERK_V_WORDS(N), r, PERK_R_WORDS(N), s,
+    result = perk_prove(N, M, h, PERK_H_WORDS(N, M), x, N, y, M, positions, N, u, sizeof u, v, PERK_V_WORDS(N), r, PERK_R_WORDS(N), s,
                         PERK_S_WORDS(N), alpha, PERK_ALPHA_WORDS(N, M), t, sizeof t, a, PERK_A_WORDS(N));
     if (wiping) wipe();
     return unused;
@@ -50,7 +50,7 @@ static size_t left(int wiped) {
 }
 
 int main(void) {
-    /* H is zero, so that the order 0, 1, .. solves the key */
+    /* H and y are zero, so that the order 0, 1, .. solves the key */
     for (int i = 0; i < N; i++) positions[i] = (uint8_t)i;
     for (int i = 0; i < PERK_V_WORDS(N); i++) v[i] = (uint16_t)(1 + i * 37 % 2047);
     for (int i = 0; i < PERK_ALPHA_WORDS(N, M); i++) alpha[i] = (uint16_t)(1 + i * 91 % 2047);

@@ -12,8 +12,8 @@
 
 enum { N = 2, M = 1, SERIAL = 7 };
 
-/* room for a serial of four bytes */
-static uint8_t package[PERK_PACKAGE_BYTES(N, M, UINT32_MAX)];
+/* room for a serial of four bytes; without a target */
+static uint8_t package[PERK_PACKAGE_BYTES(N, M, 0, UINT32_MAX)];
 static size_t length;
 
 static void put_byte(unsigned byte) { package[length++] = (uint8_t)byte; }
@@ -44,8 +44,8 @@ static void put_serial(uint32_t serial) {
 }
 
 int main(int argc, char **argv) {
-    /* the key: H and x */
-    const uint16_t h[PERK_H_WORDS(N, M)] = {2, 1}, x[PERK_X_WORDS(N)] = {1, 2};
+    /* the key: H, x and y, which is zero, since this key has no target */
+    const uint16_t h[PERK_H_WORDS(N, M)] = {2, 1}, x[PERK_X_WORDS(N)] = {1, 2}, y[PERK_Y_WORDS(M)] = {0};
     /* the card's secrets: the positions, and its side (u, v) of the correlations; d is 1, so there are no masks */
     uint8_t positions[PERK_POSITIONS_BYTES(N)];
     const uint8_t u[PERK_U_BYTES(N)] = {1, 0};
@@ -67,8 +67,8 @@ int main(int argc, char **argv) {
 
     uint8_t t[PERK_T_BYTES(N)];
     uint16_t a[PERK_A_WORDS(N)];
-    uint32_t result = perk_prove(N, M, h, PERK_H_WORDS(N, M), x, PERK_X_WORDS(N), positions, PERK_POSITIONS_BYTES(N), u, PERK_U_BYTES(N),
-                                 v, PERK_V_WORDS(N), NULL, PERK_R_WORDS(N), NULL, PERK_S_WORDS(N), alpha, PERK_ALPHA_WORDS(N, M),
+    uint32_t result = perk_prove(N, M, h, PERK_H_WORDS(N, M), x, PERK_X_WORDS(N), y, PERK_Y_WORDS(M), positions,
+                                 PERK_POSITIONS_BYTES(N), u, PERK_U_BYTES(N), v, PERK_V_WORDS(N), NULL, PERK_R_WORDS(N), NULL, PERK_S_WORDS(N), alpha, PERK_ALPHA_WORDS(N, M),
                                  t, PERK_T_BYTES(N), a, PERK_A_WORDS(N));
     if (result != PERK_DONE) {
         fprintf(stderr, "refused %u: %s\n", (unsigned)result, perk_refusal_text(result));
@@ -78,6 +78,7 @@ int main(int argc, char **argv) {
     put_bytes(PERK_TAG_SIZES, (const uint8_t[2]){N, M}, 2);
     put_words(PERK_TAG_H, h, PERK_H_WORDS(N, M));
     put_words(PERK_TAG_X, x, PERK_X_WORDS(N));
+    /* a y of zeros has no field; any other one has PERK_TAG_Y here */
     put_serial((uint32_t)serial);
     put_bytes(PERK_TAG_T, t, PERK_T_BYTES(N));
     put_words(PERK_TAG_A, a, PERK_A_WORDS(N));

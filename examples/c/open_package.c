@@ -12,7 +12,7 @@ int main(void) {
     static const struct {
         uint8_t tag;
         const char *name;
-    } fields[] = {{PERK_TAG_SIZES, "sizes"}, {PERK_TAG_H, "H"}, {PERK_TAG_X, "x"}, {PERK_TAG_SERIAL, "serial"}, {PERK_TAG_T, "t"}, {PERK_TAG_A, "a"}};
+    } fields[] = {{PERK_TAG_SIZES, "sizes"}, {PERK_TAG_H, "H"}, {PERK_TAG_X, "x"}, {PERK_TAG_Y, "y"}, {PERK_TAG_SERIAL, "serial"}, {PERK_TAG_T, "t"}, {PERK_TAG_A, "a"}};
     /* one byte more than the largest, so that a longer input is turned down */
     static uint8_t bytes[PERK_LARGEST_PACKAGE_BYTES + 1];
     size_t len = fread(bytes, 1, sizeof bytes, stdin);
@@ -25,6 +25,8 @@ int main(void) {
     printf("n %u m %u serial %lu\n", (unsigned)n, (unsigned)m, (unsigned long)serial);
     for (size_t i = 0; i < sizeof fields / sizeof *fields; i++) {
         size_t start, length = perk_field(bytes, len, fields[i].tag, &start);
+        /* y is absent where it is all zero; no other field is */
+        if (length == 0) continue;
         printf("%s:", fields[i].name);
         for (size_t k = 0; k < length; k++) printf(" %02x", (unsigned)bytes[start + k]);
         printf("\n");

@@ -1,6 +1,6 @@
 /*
- * A whole run at n = 64 and m = 27, with masks: makes a key that a random order solves, makes honest correlations, proves, writes
- * the check file, checks it, changes a byte, and reads fields back.
+ * A whole run at n = 64 and m = 27, with masks: makes a key with a target that a random order solves, makes honest correlations,
+ * proves, writes the check file, checks it, changes a byte, and reads fields back.
  *
  *   gcc -I../../include whole_run.c ../../target/staticlib/libperk.a -o whole_run
  *   ./whole_run run.check && ../../bin/perkcheck < run.check
@@ -18,9 +18,12 @@ enum { N = 64, M = 27, D = PERK_DIGITS(N), W = PERK_ELEMENT_WORDS };
 /* above 65535, so that it takes four bytes; a smaller one takes two */
 #define SERIAL 3000004711
 
-static uint16_t h[PERK_H_WORDS(N, M)], x[PERK_X_WORDS(N)], v[N * D][W], r[D - 1][W], s[D - 1][W], alpha[PERK_ALPHA_WORDS(N, M)];
+/* y is not all zero, so that the files have a field of it */
+enum { TARGET = 1 };
+
+static uint16_t h[PERK_H_WORDS(N, M)], x[PERK_X_WORDS(N)], y[PERK_Y_WORDS(M)], v[N * D][W], r[D - 1][W], s[D - 1][W], alpha[PERK_ALPHA_WORDS(N, M)];
 static uint16_t q[N * D][W], delta[W], masks[D - 1][W], a[PERK_A_WORDS(N)];
-static uint8_t positions[N], u[N * D], t[PERK_T_BYTES(N)], file[PERK_CHECK_FILE_BYTES(N, M, SERIAL)];
+static uint8_t positions[N], u[N * D], t[PERK_T_BYTES(N)], file[PERK_CHECK_FILE_BYTES(N, M, TARGET, SERIAL)];
 static size_t file_len;
 
 /* stops the program where a call is not done */
@@ -54,13 +57,7 @@ static unsigned product(unsigned b, unsigned c) {
     return sum;
 }
 
-static unsigned inverse(unsigned b) {
-    unsigned c = 1;
-    while (product(b, c) != 1) c++;
-    return c;
-}
-
-/* H = (1 | random | last), row e with a 1 in column e: the rows are independent, and the last column makes H x' zero */
+/* H = (1 | random), row e with a 1 in column e, so that the rows are independent; y = H x' */
 static void make_key(void) {
     random_words(x, N);
     for (int i = 0; i < N; i++) positions[i] = (uint8_t)i;
@@ -70,15 +67,13 @@ static void make_key(void) {
         positions[j] = positions[i];
         positions[i] = other;
     }
-    unsigned last = x[positions[N - 1]];
-    if (last == 0) x[positions[N - 1]] = last = 1;
     for (int e = 0; e < M; e++) {
         unsigned sum = 0;
-        for (int i = 0; i < N - 1; i++) {
+        for (int i = 0; i < N; i++) {
             h[e * N + i] = (uint16_t)(i < M ? i == e : random_bits(11));
             sum ^= product(h[e * N + i], x[positions[i]]);
         }
-        h[e * N + N - 1] = (uint16_t)product(sum, inverse(last));
+        y[e] = (uint16_t)sum;
     }
 }
 
@@ -99,6 +94,12 @@ static void make_correlations(void) {
         done("product", perk_product(s[k], W, delta, W, element, W));
         done("sum", perk_sum(element, W, r[k], W, masks[k], W));
     }
+}
+
+static uint32_t prove(void) {
+    return perk_prove(N, M, h, PERK_H_WORDS(N, M), x, PERK_X_WORDS(N), y, PERK_Y_WORDS(M), positions, sizeof positions, u, sizeof u,
+                      v[0], PERK_V_WORDS(N), r[0], PERK_R_WORDS(N), s[0], PERK_S_WORDS(N), alpha, PERK_ALPHA_WORDS(N, M), t,
+                      sizeof t, a, PERK_A_WORDS(N));
 }
 
 static void put_head(unsigned tag, size_t length) {
@@ -128,6 +129,7 @@ static void make_file(void) {
     file[file_len++] = M;
     put_words(PERK_TAG_H, h, PERK_H_WORDS(N, M));
     put_words(PERK_TAG_X, x, PERK_X_WORDS(N));
+    put_words(PERK_TAG_Y, y, PERK_Y_WORDS(M));
     put_serial(SERIAL);
     put_head(PERK_TAG_T, sizeof t);
     memcpy(file + file_len, t, sizeof t);
@@ -163,9 +165,7 @@ int main(int argc, char **argv) {
     }
     make_key();
     make_correlations();
-    done("prove", perk_prove(N, M, h, PERK_H_WORDS(N, M), x, PERK_X_WORDS(N), positions, sizeof positions, u, sizeof u, v[0],
-                             PERK_V_WORDS(N), r[0], PERK_R_WORDS(N), s[0], PERK_S_WORDS(N), alpha, PERK_ALPHA_WORDS(N, M), t,
-                             sizeof t, a, PERK_A_WORDS(N)));
+    done("prove", prove());
     make_file();
     check("the check file");
 
@@ -177,13 +177,16 @@ int main(int argc, char **argv) {
 
     /* the package is the first part of the check file */
     uint32_t n, m, serial;
-    size_t package_len = PERK_PACKAGE_BYTES(N, M, SERIAL), start, length;
+    size_t package_len = PERK_PACKAGE_BYTES(N, M, TARGET, SERIAL), start, length;
     done("read check file", perk_read_check_file(file, file_len, &n, &m, &serial));
     printf("n %u m %u serial %lu, %lu bytes, of which %lu are the package\n", (unsigned)n, (unsigned)m, (unsigned long)serial,
            (unsigned long)file_len, (unsigned long)package_len);
     length = perk_field(file, package_len, PERK_TAG_T, &start);
     printf("field 06: %lu bytes, %s\n", (unsigned long)length, memcmp(file + start, t, sizeof t) == 0 ? "those of t" : "others");
 
+    length = perk_field(file, package_len, PERK_TAG_Y, &start);
+    printf("field 04: %lu bytes\n", (unsigned long)length);
+    tamper("another target", start + length - 1, 1);
     length = perk_field(file, package_len, PERK_TAG_A, &start);
     tamper("one bit of a changed", start + length - 1, 1);
     tamper("a coordinate of a above 2047", start, 8);
@@ -201,9 +204,7 @@ int main(int argc, char **argv) {
     uint8_t first = positions[0];
     positions[0] = positions[1];
     positions[1] = first;
-    uint32_t result = perk_prove(N, M, h, PERK_H_WORDS(N, M), x, PERK_X_WORDS(N), positions, sizeof positions, u, sizeof u, v[0],
-                                 PERK_V_WORDS(N), r[0], PERK_R_WORDS(N), s[0], PERK_S_WORDS(N), alpha, PERK_ALPHA_WORDS(N, M), t,
-                                 sizeof t, a, PERK_A_WORDS(N));
+    uint32_t result = prove();
     printf("another order: refused %u, %s\n", (unsigned)result, perk_refusal_text(result));
     return 0;
 }

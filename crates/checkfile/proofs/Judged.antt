@@ -12,7 +12,7 @@ use Rattle.refusal.specs.declared.Answer.the-variants.{Done}
 use Rattle.refusal.specs.declared.Verdict.{Verdict}
 use Rattle.refusal.specs.declared.Verdict.the-variants as verdict
 use Rattle.field.specs.Level.{FIRST, levelAt}
-use Rattle.key.specs.Key.{lengths, below, withins}
+use Rattle.key.specs.Key.{lengths, keyWithin, below, withins}
 use Rattle.key.proofs.Checked.{checked-done}
 use Rattle.package.specs.declared.Contents.{Contents}
 use Rattle.package.specs.declared.Read.the-variants.{Fields}
@@ -31,15 +31,15 @@ use Rattle.checkfile.proofs.Said.{data-written, within-limits}
 never-refused : (k : KeyData) (g : Group) (c : Check) → checkForm (levelAt FIRST) .Limits ((k, g), c) → firstOf (verifyTests (levelAt FIRST) k g c) ≡ Done
 never-refused k g c v =
     let l = levelAt FIRST in
-    let lent = verifyLent (lengths l (k .sizes)) (k .h) (k .x) (g .t) (c .q) (c .delta) (c .masks) (c .alpha) (g .a) in
+    let lent = verifyLent (lengths l (k .sizes)) (k .slices) (g .t) (c .q) (c .delta) (c .masks) (c .alpha) (g .a) in
     let of = v .0 .0 in
     let group = v .0 .1 in
     let check = v .1 in
-    let fine : Long lent = (of .h .0, (of .x .0, (group .t .0, (check .q .0, (check .delta .0, (check .masks .0, (check .alpha .0, (group .a .0, tt)))))))) in
-    checked-done l (k .sizes) (long lent) (withins l (k .h ∷ k .x ∷ [])) (below 1 (g .t)) (withins l (c .q ∷ c .delta ∷ c .masks ∷ c .alpha ∷ g .a ∷ [])) true (record {
+    let fine : Long lent = (of .h .0, (of .x .0, (of .y .0, (group .t .0, (check .q .0, (check .delta .0, (check .masks .0, (check .alpha .0, (group .a .0, tt))))))))) in
+    checked-done l (k .sizes) (long lent) (keyWithin l (k .slices)) (below 1 (g .t)) (withins l (c .q ∷ c .delta ∷ c .masks ∷ c .alpha ∷ g .a ∷ [])) true (record {
       is-sized = of .sized;
       slices-fine = long-each lent fine;
-      elements-fine = rw (of .h .1, of .x .1);
+      elements-fine = rw (of .h .1, of .x .1, of .y .1);
       bits-fine = group .t .1;
       coordinates-fine = rw (check .q .1, check .delta .1, check .masks .1, check .alpha .1, group .a .1);
       positions-fine = refl;
@@ -64,7 +64,7 @@ judged s b c e =
     let v = verdictOf (levelAt FIRST) k g h in
     let done = never-refused k g h (within-limits s b (read-accepts (checkFileReader (levelAt FIRST)) s e .0)) in
     let is : checking (levelAt FIRST) s ≡ answered (Fields c) v = ap (λ r. answered r v) e in
-    let w = verifier.told (levelAt FIRST) (k .sizes) (k .h) (k .x) (g .t) (h .q) (h .delta) (h .masks) (h .alpha) (g .a) refl refl refl refl refl in
+    let w = verifier.told (levelAt FIRST) (k .sizes) (k .slices) (g .t) (h .q) (h .delta) (h .masks) (h .alpha) (g .a) refl refl refl refl refl in
     record {
       never-refused = done;
       accepted = (

@@ -1,10 +1,12 @@
 -- What checking a file answers: the reader's answer and, where it accepts, the verifier's.
-use mathlib.Core.List.{List}
+use mathlib.Core.List.{List, [], _∷_}
 use Prim.Native.Nat.{ℕ}
+use lib.ListN.{replicate}
 use Rattle.copying.specs.Words.{words, fromBytes}
 use Rattle.refusal.specs.declared.Verdict.{Verdict}
 use Rattle.refusal.specs.declared.Verdict.the-variants as verdict
 use Rattle.field.specs.declared.Level.{Level}
+use Rattle.key.specs.Key.{keySlices}
 use Rattle.layout.specs.Tests.{keyOf}
 use Rattle.package.specs.declared.Read.{Read}
 use Rattle.package.specs.declared.Read.the-variants as read
@@ -27,6 +29,11 @@ answered (read.Fields c) verdict.Accepted = checked.Accepted c
 answered (read.Fields c) verdict.Rejected = checked.Rejected c
 answered (read.Fields c) (verdict.Refused r) = checked.Refused r
 
+-- y, of m elements, from those of field 04: "absent means all zero"
+abbrev pub targetOf : ℕ → List ℕ → List ℕ
+targetOf m [] = replicate m 0
+targetOf m (a ∷ s) = a ∷ s
+
 module _ (l : Level) where
   -- the reader refuses nothing
   abbrev pub Accepts : List ℕ → Type 0
@@ -38,7 +45,7 @@ module _ (l : Level) where
 
   -- what the fields of a file say: t is bytes, the lists of elements are "numbers of two bytes"
   abbrev pub keyDataOf : List ℕ → KeyData
-  keyDataOf s = record { sizes = keyOf s; h = words (content s 0x02); x = words (content s 0x03) }
+  keyDataOf s = record { sizes = keyOf s; slices = keySlices (words (content s 0x02)) (words (content s 0x03)) (targetOf (keyOf s .m) (words (content s 0x04))) }
 
   abbrev pub groupOf : List ℕ → Group
   groupOf s = record { serial = fromBytes (content s 0x05); t = content s 0x06; a = words (content s 0x07) }
@@ -53,7 +60,7 @@ module _ (l : Level) where
 
   -- verify's answer for what a file says
   abbrev pub verdictOf : KeyData → Group → Check → Verdict
-  verdictOf k g c = verifyOutcome l (k .sizes) (k .h) (k .x) (g .t) (c .q) (c .delta) (c .masks) (c .alpha) (g .a)
+  verdictOf k g c = verifyOutcome l (k .sizes) (k .slices) (g .t) (c .q) (c .delta) (c .masks) (c .alpha) (g .a)
 
   abbrev pub checking : List ℕ → Checked
   checking s = answered (reading (checkFileReader l) s) (verdictOf (keyDataOf s) (groupOf s) (checkOf s))

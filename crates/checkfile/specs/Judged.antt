@@ -19,11 +19,11 @@ use Rattle.checkfile.specs.Checking.{keyDataOf, groupOf, checkOf, verdic
 module _ (l : Level) where
   -- verify's refusals for what a file says
   abbrev pub verifyTests : KeyData → Group → Check → List (Bool × ℕ)
-  verifyTests k g c = verifyRows l (k .sizes) (k .h) (k .x) (g .t) (c .q) (c .delta) (c .masks) (c .alpha) (g .a)
+  verifyTests k g c = verifyRows l (k .sizes) (k .slices) (g .t) (c .q) (c .delta) (c .masks) (c .alpha) (g .a)
 
   -- "a at Δ equals the weighted sum of its values plus the sum of Δ^k times its mask numbers"
   abbrev pub Holds : KeyData → Group → Check → Type 0
-  Holds k g c = AcceptsSlices l (system l (k .sizes) (k .h) (k .x)) (g .t) (c .q) (c .delta) (c .masks) (c .alpha) (g .a)
+  Holds k g c = AcceptsSlices l (system l (k .sizes) (k .slices)) (g .t) (c .q) (c .delta) (c .masks) (c .alpha) (g .a)
 
   -- a file that the reader accepts: no refusal of verify applies, and the answer tells whether the equation holds
   pub record Judged (s : List ℕ) (c : Contents) : Type 0 where

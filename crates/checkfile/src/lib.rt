@@ -6,6 +6,7 @@ ghost use lib.ListN.{length, take};
 ghost use Rattle.lists.specs.Words.{put};
 ghost use Rattle.copying.specs.Words.{words};
 ghost use Rattle.field.specs.Level.{FIRST, levelAt};
+ghost use Rattle.key.specs.Key.{keySlices};
 ghost use Rattle.layout.specs.Tests.{keyOf};
 ghost use Rattle.verifier.specs.Entry.{verifyOutcome};
 ghost use Rattle.checkfile.specs.Checking.{checkNumber, content, Accepts, keyDataOf, groupOf, checkOf, verdictOf, checking};
@@ -17,10 +18,12 @@ use package::Read;
 use refusal::Refusal;
 use refusal::Verdict;
 
-// Words of room for H, x, the proof, q, the mask numbers, one element of K and the weights, at n = 64 and m = 63.
+// Words of room for H, x, y, the proof, q, the mask numbers, one element of K and the weights, at n = 64 and m = 63.
 const MATRIX: usize = 4032;
 
 const VECTOR: usize = 64;
+
+const TARGET: usize = 63;
 
 const PROOF: usize = 72;
 
@@ -53,18 +56,18 @@ pub fn number(checked: Checked) -> u32
     }
 }
 
-// The content of a field of an accepted check file as words, at the start of out; answers how many.
+// The content of a field of an accepted check file as words, at the start of out, whose further words stay; answers how many.
 fn load(bytes: &[u8], tag: u8, out: &mut [u16]) -> usize
     requires { ⌜ Accepts (levelAt FIRST) (now bytes) × (length (words (content (levelAt FIRST) (now bytes) tag)) ≤ length (now out)) ⌝ }
-    ensures { λ r. ⌜ (take r (now (out .exit)) ≡ words (content (levelAt FIRST) (now (bytes .entry)) tag)) × (r ≤ length (now (out .exit))) × (r ≡ length (take r (now (out .exit)))) ⌝ }
+    ensures { λ r. ⌜ (take r (now (out .exit)) ≡ words (content (levelAt FIRST) (now (bytes .entry)) tag)) × (r ≤ length (now (out .exit))) × (r ≡ length (take r (now (out .exit)))) × (now (out .exit) ≡ put 0 (words (content (levelAt FIRST) (now (bytes .entry)) tag)) (now (out .entry))) ⌝ }
 {
     copying::words_into(package::content(bytes, tag), out)
 }
 
-// The verdict on an accepted check file whose H, x and a are lent as words.
-fn judge_with(bytes: &[u8], key: Key, h: &[u16], x: &[u16], a: &[u16]) -> Verdict
+// The verdict on an accepted check file whose H, x, y and a are lent as words.
+fn judge_with(bytes: &[u8], key: Key, h: &[u16], x: &[u16], y: &[u16], a: &[u16]) -> Verdict
     requires { ⌜ Accepts (levelAt FIRST) (now bytes) ⌝ }
-    ensures { λ r. ⌜ r ≡ verifyOutcome (levelAt FIRST) key (now (h .entry)) (now (x .entry)) (content (levelAt FIRST) (now (bytes .entry)) 0x06) (words (content (levelAt FIRST) (now (bytes .entry)) 0x11)) (words (content (levelAt FIRST) (now (bytes .entry)) 0x13)) (words (content (levelAt FIRST) (now (bytes .entry)) 0x12)) (words (content (levelAt FIRST) (now (bytes .entry)) 0x14)) (now (a .entry)) ⌝ }
+    ensures { λ r. ⌜ r ≡ verifyOutcome (levelAt FIRST) key (keySlices (now (h .entry)) (now (x .entry)) (now (y .entry))) (content (levelAt FIRST) (now (bytes .entry)) 0x06) (words (content (levelAt FIRST) (now (bytes .entry)) 0x11)) (words (content (levelAt FIRST) (now (bytes .entry)) 0x13)) (words (content (levelAt FIRST) (now (bytes .entry)) 0x12)) (words (content (levelAt FIRST) (now (bytes .entry)) 0x14)) (now (a .entry)) ⌝ }
 {
     let mut q = [0u16; ELEMENTS];
     let q_len = load(bytes, Row::Q, &mut q);
@@ -79,6 +82,7 @@ fn judge_with(bytes: &[u8], key: Key, h: &[u16], x: &[u16], a: &[u16]) -> Verdic
         key,
         h,
         x,
+        y,
         t,
         &q[..q_len],
         &delta[..delta_len],
@@ -88,7 +92,7 @@ fn judge_with(bytes: &[u8], key: Key, h: &[u16], x: &[u16], a: &[u16]) -> Verdic
     )
 }
 
-// The verdict on an accepted check file with this key.
+// The verdict on an accepted check file with this key. Where field 04 is absent the room for y stays zero.
 fn judge(bytes: &[u8], key: Key) -> Verdict
     requires { ⌜ Accepts (levelAt FIRST) (now bytes) × (key ≡ keyOf (now bytes)) ⌝ }
     ensures { λ r. ⌜ r ≡ verdictOf (levelAt FIRST) (keyDataOf (levelAt FIRST) (now (bytes .entry))) (groupOf (levelAt FIRST) (now (bytes .entry))) (checkOf (levelAt FIRST) (now (bytes .entry))) ⌝ }
@@ -97,9 +101,12 @@ fn judge(bytes: &[u8], key: Key) -> Verdict
     let h_len = load(bytes, Row::H, &mut h);
     let mut x = [0u16; VECTOR];
     let x_len = load(bytes, Row::X, &mut x);
+    let mut y = [0u16; TARGET];
+    load(bytes, Row::Y, &mut y);
     let mut a = [0u16; PROOF];
     let a_len = load(bytes, Row::A, &mut a);
-    judge_with(bytes, key, &h[..h_len], &x[..x_len], &a[..a_len])
+    let m = key.m;
+    judge_with(bytes, key, &h[..h_len], &x[..x_len], &y[..m], &a[..a_len])
 }
 
 // Whether a check file's proof is accepted, with what the file says of itself, or the reader's refusal.

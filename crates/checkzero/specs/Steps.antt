@@ -12,8 +12,8 @@ use Rattle.folding.specs.Weights.{weightedSum}
 
 module _ (l : Level) where
   -- coefficient k of the sum of the n + m polynomials, each with its weight
-  abbrev pub weightedAt : (n m d : ℕ) (h x positions v α : List ℕ) → ℕ → K l .Carrier
-  weightedAt n m d h x positions v α k = weightedSum (K l) n m (el l α) (λ j. column (K l) n d (entryOf l n h) (smallOf l x) (digitOf d positions) (elementOf l d v) j k) (λ e. check (K l) n d (entryOf l n h) (smallOf l x) (digitOf d positions) (elementOf l d v) e k)
+  abbrev pub weightedAt : (n m d : ℕ) (h x y positions v α : List ℕ) → ℕ → K l .Carrier
+  weightedAt n m d h x y positions v α k = weightedSum (K l) n m (el l α) (λ j. column (K l) n d (entryOf l n h) (smallOf l x) (smallOf l y) (digitOf d positions) (elementOf l d v) j k) (λ e. check (K l) n d (entryOf l n h) (smallOf l x) (smallOf l y) (digitOf d positions) (elementOf l d v) e k)
 
   -- the sum of the first n elements, each times its power of Δ
   abbrev pub evaluated : (n : ℕ) (s : List ℕ) → K l .Carrier → K l .Carrier

@@ -1,7 +1,8 @@
 // The work of CheckZero on lent slices: weighted sums, masks, and the two sides of the verifier's equation. No entry.
 // No branch and no index depends on the content of a slice.
 ghost use mathlib.Core.Path.{_≡_};
-ghost use Prim.Native.Nat.{_+_, _-_, _*_, _^_, _≤_, _<_};
+ghost use mathlib.Core.List.{List};
+ghost use Prim.Native.Nat.{ℕ, _+_, _-_, _*_, _^_, _≤_, _<_};
 ghost use lib.Dec.{eqb};
 ghost use lib.ListN.{length};
 ghost use Rattle.lists.specs.Words.{concat};
@@ -47,7 +48,7 @@ fn add_masks(dst: &mut [u16], r: &[u16], s: &[u16], count: usize, level: usize)
     }
 }
 
-// Writes the d coefficients of the proof: of the weighted sum of the polynomials, plus the mask. beta is room for n elements, work for
+// Writes the d coefficients of the proof: of the weighted sum of the polynomials, whatever y, plus the mask. beta is room for n elements, work for
 // (d + 1) 2^d.
 pub fn proof(
     a: &mut [u16],
@@ -68,7 +69,7 @@ pub fn proof(
     requires { ⌜ LentKey (levelAt level) n m (now h) (now x) × Words (levelAt level) (now v) × Words (levelAt level) (now alpha) × Words (levelAt level) (now r) × Words (levelAt level) (now s) ⌝ }
     requires { ⌜ (0 < levelAt level .coordinates) × (1 ≤ d) × (d < 64) × (n ≤ 2 ^ d) × (length (now positions) ≡ n) × (length (now v) ≡ levelAt level .coordinates * (d * n)) × (length (now a) ≡ levelAt level .coordinates * d) ⌝ }
     requires { ⌜ Fits (levelAt level) (n + m) (length (now alpha)) × Fits (levelAt level) (d - 1) (length (now r)) × Fits (levelAt level) (d - 1) (length (now s)) × Fits (levelAt level) n (length (now beta)) × Fits (levelAt level) ((d + 1) * 2 ^ d) (length (now work)) ⌝ }
-    ensures { λ _. ⌜ now (a .exit) ≡ concat d (λ k. words (levelAt level) (K (levelAt level) .add (weightedAt (levelAt level) n m d (now (h .entry)) (now (x .entry)) (now (positions .entry)) (now (v .entry)) (now (alpha .entry)) k) (mask (K (levelAt level)) (d - 1) (el (levelAt level) (now (r .entry))) (el (levelAt level) (now (s .entry))) k))) ⌝ }
+    ensures { λ _. ⌜ ((y : List ℕ) → now (a .exit) ≡ concat d (λ k. words (levelAt level) (K (levelAt level) .add (weightedAt (levelAt level) n m d (now (h .entry)) (now (x .entry)) y (now (positions .entry)) (now (v .entry)) (now (alpha .entry)) k) (mask (K (levelAt level)) (d - 1) (el (levelAt level) (now (r .entry))) (el (levelAt level) (now (s .entry))) k)))) ⌝ }
 {
     polynomials::weighted(a, n, m, d, h, x, positions, v, alpha, beta, work, level);
     add_masks(a, r, s, d - 1, level);

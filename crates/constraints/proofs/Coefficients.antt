@@ -92,7 +92,7 @@ module _ (K : Ring) where
 
 -- coefficient k of a column polynomial and of a row polynomial
 module _ {F K : Ring} (φ : Hom F K) (key : Instance F) (d : ℕ) (z : ℕ → ℕ → Polynomial K d) (k : ℕ) where
-  open Instance key using (n, H, x)
+  open Instance key using (n, H, x, y)
   open Ring K using (Carrier, zero as 𝟘, add as _⊕_, mul as _⊗_)
 
   infixl 60 _⊕_
@@ -109,6 +109,7 @@ module _ {F K : Ring} (φ : Hom F K) (key : Instance F) (d : ℕ) (z : ℕ → �
   unfolding x′
   coefficient-x′ i = coefficient-multiples x (z i)
 
-  pub coefficient-row : (e : ℕ) → coefficient K (suc d) (row φ key (polynomials K) d z e) k ≡ sigma K n (λ i. φ .map (H e i) ⊗ coefficient K (suc d) (x′ φ key (polynomials K) d z i) k)
+  pub coefficient-row : (e : ℕ) → coefficient K (suc d) (row φ key (polynomials K) d z e) k ≡ sigma K n (λ i. φ .map (H e i) ⊗ coefficient K (suc d) (x′ φ key (polynomials K) d z i) k) ⊕ φ .map (y e) ⊗ bit K (eqb k d)
   unfolding row
-  coefficient-row e = coefficient-multiples (H e) (x′ φ key (polynomials K) d z)
+  coefficient-row e = coefficient-sum K (suc d) (total (polynomials K) d n (λ i. scale K (suc d) (φ .map (H e i)) (x′ φ key (polynomials K) d z i))) (scale K (suc d) (φ .map (y e)) (power (polynomials K) d)) k
+      ∙ ap₂ _⊕_ (coefficient-multiples (H e) (x′ φ key (polynomials K) d z)) (coefficient-scale K (suc d) (φ .map (y e)) (power (polynomials K) d) k ∙ ap (λ c. φ .map (y e) ⊗ c) (coefficient-power K d k))

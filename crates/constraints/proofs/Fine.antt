@@ -15,10 +15,10 @@ use Rattle.field.specs.declared.Level.{Level}
 use Rattle.field.specs.Level.{FIRST, levelAt}
 use Rattle.field.proofs.Fields.{bounded, first-most, first-narrow}
 use Rattle.row.specs.Elements.{Fits, Words, Bits}
-use Rattle.row.specs.Lent.{LentKey}
+use Rattle.row.specs.Lent.{LentKey, LentTarget}
 use Rattle.key.specs.declared.Key.{Key}
 use Rattle.key.specs.declared.Lengths.{Lengths}
-use Rattle.key.specs.Key.{degree, lengths, Sized, below, withins}
+use Rattle.key.specs.Key.{degree, KeySlices, lengths, Sized, keyWithin, below, withins}
 use Rattle.key.proofs.Sized.{degree-fits, degree-lt}
 use Rattle.key.proofs.Fine.{below-lt, each-within}
 use Rattle.key.proofs.Checked.{checked}
@@ -66,11 +66,14 @@ module _ (number : ℕ) (key : Key) where
   pub words-lt : (s : List ℕ) → ((k : ℕ) → getD s k 0 ≤ l .limit) → Words l s
   words-lt s e k = omega (arith, e k, bounded number .limit)
 
-  -- H and x, with their lengths
-  pub lent-key : (h x : List ℕ) → length h ≡ len .matrix → length x ≡ len .vector → withins l (h ∷ x ∷ []) ≡ true → LentKey l (key .n) (key .m) h x
-  lent-key h x a b e =
-      let f = each-within l (h ∷ x ∷ []) e in
+  -- H and x, with their lengths, and y
+  pub lent-key : (lent : KeySlices) → length (lent .h) ≡ len .matrix → length (lent .x) ≡ len .vector → keyWithin l lent ≡ true → LentKey l (key .n) (key .m) (lent .h) (lent .x)
+  lent-key lent a b e =
+      let f = each-within l (lent .h ∷ lent .x ∷ lent .y ∷ []) e in
       record { h-length = a ∙ mul-comm (key .m) (key .n); x-length = b; h-within = f .0; x-within = f .1 .0 }
+
+  pub lent-target : (lent : KeySlices) → length (lent .y) ≡ len .target → keyWithin l lent ≡ true → LentTarget l (key .m) (lent .y)
+  lent-target lent a e = record { y-length = a; y-within = each-within l (lent .h ∷ lent .x ∷ lent .y ∷ []) e .1 .1 .0 }
 
   -- lengths by rows and by columns
   pub elements-columns : len .elements ≡ l .coordinates * (degree (key .n) * key .n)
@@ -79,9 +82,10 @@ module _ (number : ℕ) (key : Key) where
   pub polynomials-columns : len .polynomials ≡ l .coordinates * ((degree (key .n) + 1) * (key .n + key .m))
   polynomials-columns = ap (λ a. l .coordinates * a) (mul-comm (key .n + key .m) (degree (key .n) + 1))
 
-  pub record ConstraintsFine (h x positions u v t p : List ℕ) : Type 0 where
+  pub record ConstraintsFine (lent : KeySlices) (positions u v t p : List ℕ) : Type 0 where
     pub is-sized : Sized l key
-    pub is-key : LentKey l (key .n) (key .m) h x
+    pub is-key : LentKey l (key .n) (key .m) (lent .h) (lent .x)
+    pub is-target : LentTarget l (key .m) (lent .y)
     pub positions-length : length positions ≡ len .positions
     pub u-length : length u ≡ len .bits
     pub v-length : length v ≡ len .elements
@@ -91,26 +95,28 @@ module _ (number : ℕ) (key : Key) where
     pub v-words : Words l v
     pub positions-lt : (i : ℕ) → getD positions i 0 < 2 ^ degree (key .n)
 
-  pub constraints-fine : (h x positions u v t p : List ℕ) → firstOf (constraintsRows l key h x positions u v t p) ≡ Done → ConstraintsFine h x positions u v t p
-  constraints-fine h x positions u v t p e =
-      let c = checked l key (long (constraintsLent len h x positions u v t p)) (withins l (h ∷ x ∷ [])) (below 1 u) (withins l (v ∷ [])) (below (degree (key .n)) positions) e in
-      let s = each-long (constraintsLent len h x positions u v t p) (c .slices-fine) in
+  pub constraints-fine : (lent : KeySlices) (positions u v t p : List ℕ) → firstOf (constraintsRows l key lent positions u v t p) ≡ Done → ConstraintsFine lent positions u v t p
+  constraints-fine lent positions u v t p e =
+      let c = checked l key (long (constraintsLent len lent positions u v t p)) (keyWithin l lent) (below 1 u) (withins l (v ∷ [])) (below (degree (key .n)) positions) e in
+      let s = each-long (constraintsLent len lent positions u v t p) (c .slices-fine) in
       record {
         is-sized = c .is-sized;
-        is-key = lent-key h x (s .0) (s .1 .0) (c .elements-fine);
-        positions-length = s .1 .1 .0;
-        u-length = s .1 .1 .1 .0;
-        v-length = s .1 .1 .1 .1 .0;
-        t-length = s .1 .1 .1 .1 .1 .0;
-        p-length = s .1 .1 .1 .1 .1 .1 .0;
+        is-key = lent-key lent (s .0) (s .1 .0) (c .elements-fine);
+        is-target = lent-target lent (s .1 .1 .0) (c .elements-fine);
+        positions-length = s .1 .1 .1 .0;
+        u-length = s .1 .1 .1 .1 .0;
+        v-length = s .1 .1 .1 .1 .1 .0;
+        t-length = s .1 .1 .1 .1 .1 .1 .0;
+        p-length = s .1 .1 .1 .1 .1 .1 .1 .0;
         u-bits = below-lt 1 u (c .bits-fine);
         v-words = words-lt v (each-within l (v ∷ []) (c .coordinates-fine) .0);
         positions-lt = below-lt (degree (key .n)) positions (c .positions-fine);
       }
 
-  pub record ValuesFine (h x t q Δ p : List ℕ) : Type 0 where
+  pub record ValuesFine (lent : KeySlices) (t q Δ p : List ℕ) : Type 0 where
     pub is-sized : Sized l key
-    pub is-key : LentKey l (key .n) (key .m) h x
+    pub is-key : LentKey l (key .n) (key .m) (lent .h) (lent .x)
+    pub is-target : LentTarget l (key .m) (lent .y)
     pub t-length : length t ≡ len .bits
     pub q-length : length q ≡ len .elements
     pub Δ-length : length Δ ≡ len .one
@@ -119,18 +125,19 @@ module _ (number : ℕ) (key : Key) where
     pub q-words : Words l q
     pub Δ-words : Words l Δ
 
-  pub values-fine : (h x t q Δ p : List ℕ) → firstOf (valuesRows l key h x t q Δ p) ≡ Done → ValuesFine h x t q Δ p
-  values-fine h x t q Δ p e =
-      let c = checked l key (long (valuesLent len h x t q Δ p)) (withins l (h ∷ x ∷ [])) (below 1 t) (withins l (q ∷ Δ ∷ [])) true e in
-      let s = each-long (valuesLent len h x t q Δ p) (c .slices-fine) in
+  pub values-fine : (lent : KeySlices) (t q Δ p : List ℕ) → firstOf (valuesRows l key lent t q Δ p) ≡ Done → ValuesFine lent t q Δ p
+  values-fine lent t q Δ p e =
+      let c = checked l key (long (valuesLent len lent t q Δ p)) (keyWithin l lent) (below 1 t) (withins l (q ∷ Δ ∷ [])) true e in
+      let s = each-long (valuesLent len lent t q Δ p) (c .slices-fine) in
       let f = each-within l (q ∷ Δ ∷ []) (c .coordinates-fine) in
       record {
         is-sized = c .is-sized;
-        is-key = lent-key h x (s .0) (s .1 .0) (c .elements-fine);
-        t-length = s .1 .1 .0;
-        q-length = s .1 .1 .1 .0;
-        Δ-length = s .1 .1 .1 .1 .0;
-        p-length = s .1 .1 .1 .1 .1 .0;
+        is-key = lent-key lent (s .0) (s .1 .0) (c .elements-fine);
+        is-target = lent-target lent (s .1 .1 .0) (c .elements-fine);
+        t-length = s .1 .1 .1 .0;
+        q-length = s .1 .1 .1 .1 .0;
+        Δ-length = s .1 .1 .1 .1 .1 .0;
+        p-length = s .1 .1 .1 .1 .1 .1 .0;
         t-bits = below-lt 1 t (c .bits-fine);
         q-words = words-lt q (f .0);
         Δ-words = words-lt Δ (f .1 .0);

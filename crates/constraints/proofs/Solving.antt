@@ -7,7 +7,7 @@ use native.Mathlib.Omega.{arith}
 use lib.Dec.{ltb, eqb}
 use borrow.Author.Tests.{lt-ltb, le-ltb}
 use Rattle.field.specs.Ring.{Ring, Hom}
-use Rattle.field.specs.RingLaws.{ring, zero-add, mul-zero, hom-zero}
+use Rattle.field.specs.RingLaws.{ring, zero-add, mul-zero, add-equal, hom-zero}
 use Rattle.field.specs.Binary.{bit}
 use Rattle.constraints.specs.Graded.{summed, sigma, point}
 use Rattle.constraints.specs.GradedLaws.{summed-cong, map-summed}
@@ -61,7 +61,7 @@ abbrev pub picks : (K : Ring) → (ℕ → ℕ) → ℕ → ℕ → K .Carrier
 picks K position i j = bit K (eqb (position i) j)
 
 module _ {F K : Ring} (φ : Hom F K) (key : Instance F) (d : ℕ) (position : ℕ → ℕ) where
-  open Instance key using (n, m, H, x)
+  open Instance key using (n, m, H, x, y)
   open Ring K using (Carrier, zero as 𝟘, one as 𝟙, add as _⊕_, mul as _⊗_)
 
   infixl 60 _⊕_
@@ -80,19 +80,22 @@ module _ {F K : Ring} (φ : Hom F K) (key : Instance F) (d : ℕ) (position : �
   unfolding column
   column-one j = ap₂ _⊕_ (sigma-bits K n (λ i. eqb (position i) j)) (power-point K 𝟙 d ∙ pow-one K d)
 
-  row-one : Order n position → (e : ℕ) → row φ key (point K 𝟙) d (picks K position) e ≡ φ .map (entry e)
-  unfolding row x′
-  row-one ord e = summed-cong 𝟘 _⊕_ n _ _ (λ i l. ap (λ s. φ .map (H e i) ⊗ s) (named i l) ∙ sym (φ .map-mul (H e i) (x (position i))))
+  products : Order n position → (e : ℕ) → sigma K n (λ i. φ .map (H e i) ⊗ sigma K n (λ j. φ .map (x j) ⊗ picks K position i j)) ≡ φ .map (entry e)
+  products ord e = summed-cong 𝟘 _⊕_ n _ _ (λ i l. ap (λ s. φ .map (H e i) ⊗ s) (named i l) ∙ sym (φ .map-mul (H e i) (x (position i))))
       ∙ sym (map-summed (F .zero) (F .add) 𝟘 _⊕_ (φ .map) (hom-zero F K φ) (φ .map-add) n (λ i. F .mul (H e i) (x (position i))))
     where
       named : (i : ℕ) → i < n → sigma K n (λ j. φ .map (x j) ⊗ picks K position i j) ≡ φ .map (x (position i))
       named i l = sigma-pick K n (position i) (λ j. φ .map (x j)) ∙ ap (λ b. φ .map (x (position i)) ⊗ bit K b) (lt-ltb (position i) n (order-below position n ord i l)) ∙ K .mul-one (φ .map (x (position i)))
 
+  row-one : Order n position → (e : ℕ) → row φ key (point K 𝟙) d (picks K position) e ≡ φ .map (entry e) ⊕ φ .map (y e)
+  unfolding row x′
+  row-one ord e = ap₂ _⊕_ (products ord e) (ap (λ c. φ .map (y e) ⊗ c) (power-point K 𝟙 d ∙ pow-one K d) ∙ K .mul-one (φ .map (y e)))
+
   pub solving : (𝟙 ≡ 𝟘 → ⊥) → ((a b : F .Carrier) → φ .map a ≡ φ .map b → a ≡ b) → (Columns × Rows) ↔ (Order n position × Solves key position)
   unfolding parity
   solving distinct injective = (
-    λ h. (ord (h .0), λ e l. injective (entry e) (F .zero) (sym (row-one (ord (h .0)) e) ∙ h .1 e l ∙ sym (hom-zero F K φ))),
-    λ s. (λ j l. column-one j ∙ ap (λ c. bit K (parity c) ⊕ 𝟙) (s .0 j l) ∙ K .add-self 𝟙, λ e l. row-one (s .0) e ∙ ap (φ .map) (s .1 e l) ∙ hom-zero F K φ),
+    λ h. (ord (h .0), λ e l. injective (entry e) (y e) (add-equal K (φ .map (entry e)) (φ .map (y e)) (sym (row-one (ord (h .0)) e) ∙ h .1 e l))),
+    λ s. (λ j l. column-one j ∙ ap (λ c. bit K (parity c) ⊕ 𝟙) (s .0 j l) ∙ K .add-self 𝟙, λ e l. row-one (s .0) e ∙ ap (λ c. φ .map c ⊕ φ .map (y e)) (s .1 e l) ∙ K .add-self (φ .map (y e))),
   )
     where
       ord : Columns → Order n position

@@ -14,7 +14,7 @@ use Rattle.field.specs.Word.{odd, element, words}
 use Rattle.field.proofs.Elements.{words-length, element-words}
 use Rattle.constraints.specs.Graded.{Polynomial, coefficient, top, eval}
 use Rattle.constraints.specs.System.{System, masked, polynomial, value}
-use Rattle.key.specs.Key.{degree}
+use Rattle.key.specs.Key.{degree, KeySlices}
 use Rattle.constraints.specs.Order.{Order, Solves}
 use Rattle.constraints.specs.Slices.{bits, elementAt, elements, polynomialAt, maskedBytes, polynomialWords, valueWords, keyOf, systemOf, positionAt, witnessOf}
 use Rattle.constraints.specs.Truth.{HonestNumbers, evaluated, Agrees, Truth}
@@ -78,17 +78,17 @@ module _ (l : Level) (S : System (K l)) where
           ∙ ap (λ p. eval (K l) (suc d) p (element l Δ)) (sym (polynomial-written w v j a))
 
 -- at every level, for every key of fewer than 2^64 columns, spare codes included
-module _ (l : Level) (width : 0 < l .width) (coordinates : 0 < l .coordinates) (n m : ℕ) (h x : List ℕ) (fits : n < 2 ^ 64) (positions : List ℕ) (small : (i : ℕ) → i < n → positionAt positions i < 2 ^ degree n) where
+module _ (l : Level) (width : 0 < l .width) (coordinates : 0 < l .coordinates) (n m : ℕ) (lent : KeySlices) (fits : n < 2 ^ 64) (positions : List ℕ) (small : (i : ℕ) → i < n → positionAt positions i < 2 ^ degree n) where
   abbrev S : System (K l)
-  S = systemOf l n m h x
+  S = systemOf l n m lent
 
   -- the tops of the polynomials are zero exactly when the positions solve the key
   pub tops-solve : (v : List ℕ)
-      → ((j : ℕ) → j < n + m → top (K l) (degree n) (polynomial (systemOf l n m h x) (witnessOf n positions) (elements l (degree n) v) j) ≡ K l .zero) ↔ (Order n (positionAt positions) × Solves (keyOf l n m h x) (positionAt positions))
-  tops-solve v = tops (embed l) (keyOf l n m h x) (degree n) (positionAt positions) (elements l (degree n) v) (degree-fits n fits) small (K-distinct l width coordinates) (embed-injective l coordinates)
+      → ((j : ℕ) → j < n + m → top (K l) (degree n) (polynomial (systemOf l n m lent) (witnessOf n positions) (elements l (degree n) v) j) ≡ K l .zero) ↔ (Order n (positionAt positions) × Solves (keyOf l n m lent) (positionAt positions))
+  tops-solve v = tops (embed l) (keyOf l n m lent) (degree n) (positionAt positions) (elements l (degree n) v) (degree-fits n fits) small (K-distinct l width coordinates) (embed-injective l coordinates)
 
   -- demand 3
-  pub truth : (u v : List ℕ) → Truth l n m h x positions u v (maskedBytes (systemOf l n m h x) (witnessOf n positions) u) (polynomialWords l (systemOf l n m h x) (witnessOf n positions) v)
+  pub truth : (u v : List ℕ) → Truth l n m lent positions u v (maskedBytes (systemOf l n m lent) (witnessOf n positions) u) (polynomialWords l (systemOf l n m lent) (witnessOf n positions) v)
   truth u v = record {
     agrees = agrees l S (witnessOf n positions) u v;
     tops = (λ e. tops-solve v .0 (λ j a. ap (top (K l) (degree n)) (sym (written j a)) ∙ e j a), λ s j a. ap (top (K l) (degree n)) (written j a) ∙ tops-solve v .1 s j a);

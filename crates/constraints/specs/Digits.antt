@@ -6,12 +6,13 @@ use Rattle.field.specs.Ring.{Ring, Hom}
 use Rattle.field.specs.Word.{odd}
 use Rattle.constraints.specs.Graded.{Graded, total, product, power}
 
--- "The key is n, m, H and x": H(e,i) for e below m and i below n, and x(i) for i below n
+-- "The key is n, m, H and x", and y: H(e,i) for e below m and i below n, x(i) for i below n, and y(e) for e below m
 pub record Instance (F : Ring) : Type 0 where
   pub n : ℕ
   pub m : ℕ
   pub H : ℕ → ℕ → F .Carrier
   pub x : ℕ → F .Carrier
+  pub y : ℕ → F .Carrier
 
 -- digit k of j, of d digits in base b, "k from 0 to d - 1, highest digit first"
 unfoldable pub digitIn : (b d k j : ℕ) → ℕ
@@ -35,7 +36,7 @@ module _ {K : Ring} (G : Graded K) (d : ℕ) where
   z f i j = product G d (factor f i j)
 
 module _ {F K : Ring} (φ : Hom F K) (key : Instance F) (G : Graded K) (d : ℕ) where
-  open Instance key using (n, H, x)
+  open Instance key using (n, H, x, y)
 
   -- "the sum of z(i,j) over all rows i, minus X^d": minus is plus, as a + a is zero
   unfoldable pub column : (ℕ → ℕ → G .Value d) → ℕ → G .Value d
@@ -45,9 +46,9 @@ module _ {F K : Ring} (φ : Hom F K) (key : Instance F) (G : Graded K) (d : ℕ)
   unfoldable pub x′ : (ℕ → ℕ → G .Value d) → ℕ → G .Value d
   x′ z i = total G d n (λ j. G .scaled d (φ .map (x j)) (z i j))
 
-  -- "the sum over i of H(e,i) times x'(i)"
+  -- "the sum over i of H(e,i) times x'(i)", which "loses y(e) times X^d"
   unfoldable pub row : (ℕ → ℕ → G .Value d) → ℕ → G .Value d
-  row z e = total G d n (λ i. G .scaled d (φ .map (H e i)) (x′ z i))
+  row z e = G .plus d (total G d n (λ i. G .scaled d (φ .map (H e i)) (x′ z i))) (G .scaled d (φ .map (y e)) (power G d))
 
 -- f j for j below n, and g e for n + e
 unfoldable pub join : {A : Type 0} (n : ℕ) (f g : ℕ → A) → ℕ → A

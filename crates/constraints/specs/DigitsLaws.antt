@@ -35,36 +35,40 @@ unfolding z factor
 map-z {A} g d f i j = map-product g d (factor A d f i j)
 
 -- only rows and columns below n of a matrix z count
-module _ {F K : Ring} (φ : Hom F K) (key : Instance F) (G : Graded K) (d : ℕ) (y z : ℕ → ℕ → G .Value d) (h : (i j : ℕ) → i < key .n → j < key .n → y i j ≡ z i j) where
-  open Instance key using (n, H, x)
+module _ {F K : Ring} (φ : Hom F K) (key : Instance F) (G : Graded K) (d : ℕ) (w z : ℕ → ℕ → G .Value d) (h : (i j : ℕ) → i < key .n → j < key .n → w i j ≡ z i j) where
+  open Instance key using (n, H, x, y)
 
-  column-cong : (j : ℕ) → j < n → column φ key G d y j ≡ column φ key G d z j
+  column-cong : (j : ℕ) → j < n → column φ key G d w j ≡ column φ key G d z j
   unfolding column
   column-cong j l = ap (λ s. G .plus d s (power G d)) (summed-cong (G .nil d) (G .plus d) n _ _ (λ i k. h i j k l))
 
-  row-cong : (e : ℕ) → row φ key G d y e ≡ row φ key G d z e
+  row-cong : (e : ℕ) → row φ key G d w e ≡ row φ key G d z e
   unfolding row x′
-  row-cong e = summed-cong (G .nil d) (G .plus d) n _ _ (λ i l. ap (G .scaled d (φ .map (H e i))) (summed-cong (G .nil d) (G .plus d) n _ _ (λ j r. ap (G .scaled d (φ .map (x j))) (h i j l r))))
+  row-cong e = ap (λ s. G .plus d s (G .scaled d (φ .map (y e)) (power G d))) (summed-cong (G .nil d) (G .plus d) n _ _ (λ i l. ap (G .scaled d (φ .map (H e i))) (summed-cong (G .nil d) (G .plus d) n _ _ (λ j r. ap (G .scaled d (φ .map (x j))) (h i j l r)))))
 
-  pub constraint-cong : (j : ℕ) → constraint φ key G d y j ≡ constraint φ key G d z j
+  pub constraint-cong : (j : ℕ) → constraint φ key G d w j ≡ constraint φ key G d z j
   unfolding constraint
   constraint-cong j = join-cong n _ _ _ _ column-cong row-cong j
 
 -- along a map g over h; ψ is φ and then h
 module _ {F K L : Ring} (φ : Hom F K) (ψ : Hom F L) {h : Hom K L} (same : (a : F .Carrier) → h .map (φ .map a) ≡ ψ .map a) (key : Instance F)
     {A : Graded K} {B : Graded L} (g : Morphism h A B) (d : ℕ) (z : ℕ → ℕ → A .Value d) where
-  open Instance key using (n, H, x)
+  open Instance key using (n, H, x, y)
 
   map-column : (j : ℕ) → g .map d (column φ key A d z j) ≡ column ψ key B d (λ i j. g .map d (z i j)) j
   unfolding column
   map-column j = g .map-plus d (total A d n (λ i. z i j)) (power A d) ∙ ap₂ (B .plus d) (map-total g d n (λ i. z i j)) (map-power g d)
 
+  multiple : (c : F .Carrier) (f : A .Value d) → g .map d (A .scaled d (φ .map c) f) ≡ B .scaled d (ψ .map c) (g .map d f)
+  multiple c f = g .map-scaled d (φ .map c) f ∙ ap (λ a. B .scaled d a (g .map d f)) (same c)
+
   map-row : (e : ℕ) → g .map d (row φ key A d z e) ≡ row ψ key B d (λ i j. g .map d (z i j)) e
   unfolding row x′
-  map-row e = multiples (H e) (x′ φ key A d z) ∙ ap (total B d n) (λ t i. B .scaled d (ψ .map (H e i)) (multiples x (z i) t))
+  map-row e = g .map-plus d (total A d n (λ i. A .scaled d (φ .map (H e i)) (x′ φ key A d z i))) (A .scaled d (φ .map (y e)) (power A d))
+      ∙ ap₂ (B .plus d) (multiples (H e) (x′ φ key A d z) ∙ ap (total B d n) (λ t i. B .scaled d (ψ .map (H e i)) (multiples x (z i) t))) (multiple (y e) (power A d) ∙ ap (B .scaled d (ψ .map (y e))) (map-power g d))
     where
       multiples : (c : ℕ → F .Carrier) (f : ℕ → A .Value d) → g .map d (total A d n (λ i. A .scaled d (φ .map (c i)) (f i))) ≡ total B d n (λ i. B .scaled d (ψ .map (c i)) (g .map d (f i)))
-      multiples c f = map-total g d n (λ i. A .scaled d (φ .map (c i)) (f i)) ∙ ap (total B d n) (λ t i. (g .map-scaled d (φ .map (c i)) (f i) ∙ ap (λ a. B .scaled d a (g .map d (f i))) (same (c i))) t)
+      multiples c f = map-total g d n (λ i. A .scaled d (φ .map (c i)) (f i)) ∙ ap (total B d n) (λ t i. multiple (c i) (f i) t)
 
   map-constraint : (j : ℕ) → g .map d (constraint φ key A d z j) ≡ constraint ψ key B d (λ i j. g .map d (z i j)) j
   unfolding constraint

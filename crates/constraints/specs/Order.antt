@@ -16,7 +16,7 @@ count (suc n) test = count n test + cond (test n) 1 0
 abbrev pub Order : ℕ → (ℕ → ℕ) → Type 0
 Order n position = (j : ℕ) → j < n → count n (λ i. eqb (position i) j) ≡ 1
 
--- "Entry i of x in that order is the entry of x that position i names; H times it is the m sums over i of H(e,i) times that entry,
--- and zero means that all m are 0."
+-- "Entry i of x in that order is the entry of x that position i names; H times it is the m sums over i of H(e,i) times that entry",
+-- and "H times x' must equal y": each is y(e)
 abbrev pub Solves : {F : Ring} → Instance F → (ℕ → ℕ) → Type 0
-Solves {F} key position = (e : ℕ) → e < key .m → sigma F (key .n) (λ i. F .mul (key .H e i) (key .x (position i))) ≡ F .zero
+Solves {F} key position = (e : ℕ) → e < key .m → sigma F (key .n) (λ i. F .mul (key .H e i) (key .x (position i))) ≡ key .y e

@@ -10,7 +10,7 @@ use Rattle.field.specs.Level.{F, K, embed}
 use Rattle.field.specs.Word.{odd, vector, small, element, words}
 use Rattle.constraints.specs.Graded.{Polynomial, coefficient}
 use Rattle.constraints.specs.System.{System, masked, polynomial, value}
-use Rattle.key.specs.Key.{degree}
+use Rattle.key.specs.Key.{degree, KeySlices}
 use Rattle.constraints.specs.Digits.{Instance, witness}
 use Rattle.constraints.specs.Modelling.{digits}
 
@@ -47,13 +47,13 @@ module _ (l : Level) where
     unfoldable pub valueWords : (t q Δ : List ℕ) → List ℕ
     valueWords t q Δ = concat (S .size) (λ j. words l (value S (bits (S .places) t) (elements (S .places) q) (element l Δ) j))
 
-  -- "H has m rows of n elements of F, row after row. The vector x has n elements of F."
-  abbrev pub keyOf : (n m : ℕ) (h x : List ℕ) → Instance (F l)
-  keyOf n m h x = record { n = n; m = m; H = λ e i. smallAt h (e * n + i); x = smallAt x }
+  -- "H has m rows of n elements of F, row after row. The vector x has n elements of F.", and "a target y of m elements of F"
+  abbrev pub keyOf : (n m : ℕ) → KeySlices → Instance (F l)
+  keyOf n m lent = record { n = n; m = m; H = λ e i. smallAt (lent .h) (e * n + i); x = smallAt (lent .x); y = smallAt (lent .y) }
 
   -- the system of a key, with d digits
-  abbrev pub systemOf : (n m : ℕ) (h x : List ℕ) → System (K l)
-  systemOf n m h x = digits (embed l) (keyOf n m h x) (degree n)
+  abbrev pub systemOf : (n m : ℕ) → KeySlices → System (K l)
+  systemOf n m lent = digits (embed l) (keyOf n m lent) (degree n)
 
 -- "The prover has n positions, one byte each", and their witness
 abbrev pub positionAt : List ℕ → ℕ → ℕ

@@ -9,7 +9,7 @@ use Rattle.field.specs.Level.{K}
 use Rattle.field.specs.Word.{element, words}
 use Rattle.constraints.specs.Graded.{top, eval}
 use Rattle.constraints.specs.System.{System, Honest}
-use Rattle.key.specs.Key.{degree}
+use Rattle.key.specs.Key.{degree, KeySlices}
 use Rattle.constraints.specs.Order.{Order, Solves}
 use Rattle.constraints.specs.Slices.{bits, elementAt, elements, polynomialAt, valueWords, keyOf, systemOf, positionAt}
 
@@ -28,9 +28,9 @@ module _ (l : Level) (S : System (K l)) where
     pub whole : (q Δ : List ℕ) → HonestNumbers u v q Δ → valueWords l S t q Δ ≡ concat (S .size) (λ j. words l (evaluated p Δ j))
 
 -- of a key, its prover's positions, mask bits u and offsets v, and the masked witness t and polynomials p made of them
-pub record Truth (l : Level) (n m : ℕ) (h x positions u v t p : List ℕ) : Type 0 where
+pub record Truth (l : Level) (n m : ℕ) (lent : KeySlices) (positions u v t p : List ℕ) : Type 0 where
   -- "wherever the entry values is handed that key, that masked witness and that challenge"
-  pub agrees : Agrees l (systemOf l n m h x) u v t p
+  pub agrees : Agrees l (systemOf l n m lent) u v t p
   -- "the top coefficients of all n + m polynomials are zero exactly when the positions are the numbers 0 to n - 1, each once,
-  -- and H times the vector x in that order is zero"
-  pub tops : ((j : ℕ) → j < n + m → top (K l) (degree n) (polynomialAt l (degree n) p j) ≡ K l .zero) ↔ (Order n (positionAt positions) × Solves (keyOf l n m h x) (positionAt positions))
+  -- and H times the vector x in that order is" y
+  pub tops : ((j : ℕ) → j < n + m → top (K l) (degree n) (polynomialAt l (degree n) p j) ≡ K l .zero) ↔ (Order n (positionAt positions) × Solves (keyOf l n m lent) (positionAt positions))

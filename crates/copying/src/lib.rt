@@ -39,10 +39,10 @@ pub fn from_bytes(c: &[u8]) -> u32
     x as u32
 }
 
-// The numbers of two bytes of c, at the start of out; answers how many.
+// The numbers of two bytes of c, at the start of out, whose further words stay; answers how many.
 pub fn words_into(c: &[u8], out: &mut [u16]) -> usize
     requires { ⌜ length (words (now c)) ≤ length (now out) ⌝ }
-    ensures { λ r. ⌜ (take r (now (out .exit)) ≡ words (now (c .entry))) × (r ≤ length (now (out .exit))) × (r ≡ length (take r (now (out .exit)))) ⌝ }
+    ensures { λ r. ⌜ (take r (now (out .exit)) ≡ words (now (c .entry))) × (r ≤ length (now (out .exit))) × (r ≡ length (take r (now (out .exit)))) × (now (out .exit) ≡ put 0 (words (now (c .entry))) (now (out .entry))) ⌝ }
 {
     let mut i = 0;
     let mut k = 0;

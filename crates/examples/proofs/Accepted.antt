@@ -9,16 +9,17 @@ use Rattle.refusal.specs.declared.Verdict.{Verdict}
 use Rattle.refusal.specs.declared.Verdict.the-variants.{Accepted}
 use Rattle.field.specs.Level.{levelAt}
 use Rattle.key.specs.declared.Key.{Key}
+use Rattle.key.specs.Key.{KeySlices}
 use Rattle.prover.specs.Entry.{proveOutcome}
 use Rattle.prover.specs.Solved.{Solved}
 use Rattle.verifier.specs.Entry.{verifyOutcome}
 use Rattle.verifier.specs.Complete.{HonestVerifier}
 use Rattle.verifier.proofs.Completeness.{completeness}
 
-pub accepted : (number : ℕ) (key : Key) (h x positions u v r s α t a q Δ masks : List ℕ) {answer : Answer} {t′ a′ : List ℕ} {verdict : Verdict}
-    → (answer, (t′, a′)) ≡ proveOutcome (levelAt number) key h x positions u v r s α t a → Solved (levelAt number) key h x positions u v r s α t a (answer ≡ Done) (answer ≡ refusal 8) → verdict ≡ verifyOutcome (levelAt number) key h x t′ q Δ masks α a′
-    → answer ≡ Done → HonestVerifier (levelAt number) key h x u v r s q Δ masks → verdict ≡ Accepted
-accepted number key h x positions u v r s α t a q Δ masks e p f done honest =
+pub accepted : (number : ℕ) (key : Key) (lent : KeySlices) (positions u v r s α t a q Δ masks : List ℕ) {answer : Answer} {t′ a′ : List ℕ} {verdict : Verdict}
+    → (answer, (t′, a′)) ≡ proveOutcome (levelAt number) key lent positions u v r s α t a → Solved (levelAt number) key lent positions u v r s α t a (answer ≡ Done) (answer ≡ refusal 8) → verdict ≡ verifyOutcome (levelAt number) key lent t′ q Δ masks α a′
+    → answer ≡ Done → HonestVerifier (levelAt number) key lent u v r s q Δ masks → verdict ≡ Accepted
+accepted number key lent positions u v r s α t a q Δ masks e p f done honest =
     let known = p .done .0 done in
-    f ∙ ap (λ (o : Answer × (List ℕ × List ℕ)). verifyOutcome (levelAt number) key h x (o .1 .0) q Δ masks α (o .1 .1)) e
-    ∙ completeness number key h x positions u v r s α t a q Δ masks (known .0) (known .1) honest .accepted
+    f ∙ ap (λ (o : Answer × (List ℕ × List ℕ)). verifyOutcome (levelAt number) key lent (o .1 .0) q Δ masks α (o .1 .1)) e
+    ∙ completeness number key lent positions u v r s α t a q Δ masks (known .0) (known .1) honest .accepted

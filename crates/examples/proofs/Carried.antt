@@ -73,17 +73,17 @@ module _ {F K : Ring} (φ : Hom F K) where
       ∙ ap (sigma K count) (λ t k. shifted-along k (s k) (r k) i t)
 
 module _ (key : Numbers) where
-  open Numbers key using (n, m, H, x, v, r, s, α)
+  open Numbers key using (n, m, lent, v, r, s, α)
 
   abbrev d : ℕ
   d = degree n
 
   -- the constraints over F and over K
   abbrev pub overF : System (F first)
-  overF = system (identity (F first)) (keyOf first n m H x) d
+  overF = system (identity (F first)) (keyOf first n m lent) d
 
   abbrev overK : System (K first)
-  overK = system (embed first) (keyOf first n m H x) d
+  overK = system (embed first) (keyOf first n m lent) d
 
   -- element (i,k) of F, and of K
   unfoldable pub numbersAt : List ℕ → ℕ → ℕ → F first .Carrier
@@ -104,7 +104,7 @@ module _ (key : Numbers) where
 
       one : (j k : ℕ) → words first (coefficient (K first) (suc d) (polynomial overK w (elements first d (bares v)) j) k) ≡ bare (word first (coefficient (F first) (suc d) (polynomial overF w (numbersAt v) j) k))
       one j k = ap (λ f. words first (coefficient (K first) (suc d) (polynomial overK w f j) k)) (at-bares v)
-          ∙ ap (words first) (polynomial-along (embed first) (keyOf first n m H x) d w (numbersAt v) j k) ∙ words-embed (coefficient (F first) (suc d) (polynomial overF w (numbersAt v) j) k)
+          ∙ ap (words first) (polynomial-along (embed first) (keyOf first n m lent) d w (numbersAt v) j k) ∙ words-embed (coefficient (F first) (suc d) (polynomial overF w (numbersAt v) j) k)
 
   pub values-carried : (t q : List ℕ) (Δ : ℕ)
       → valuesOf key t q Δ ≡ concat (n + m) (λ j. bare (word first (value overF (bits d t) (numbersAt q) (small first Δ) j)))
@@ -113,7 +113,7 @@ module _ (key : Numbers) where
     where
       one : (j : ℕ) → words first (value overK (bits d t) (elements first d (bares q)) (element first (bare Δ)) j) ≡ bare (word first (value overF (bits d t) (numbersAt q) (small first Δ) j))
       one j = (λ s. words first (value overK (bits d t) (at-bares q s) (element-bare Δ s) j))
-          ∙ ap (words first) (value-along (embed first) (keyOf first n m H x) d (bits d t) (numbersAt q) (small first Δ) j) ∙ words-embed (value overF (bits d t) (numbersAt q) (small first Δ) j)
+          ∙ ap (words first) (value-along (embed first) (keyOf first n m lent) d (bits d t) (numbersAt q) (small first Δ) j) ∙ words-embed (value overF (bits d t) (numbersAt q) (small first Δ) j)
 
   -- honest numbers over F are honest in K
   pub honest-carried : (u q : List ℕ) (Δ : ℕ) → Honest overF (bits d u) (numbersAt v) (numbersAt q) (small first Δ) → HonestNumbers first overK u (bares v) (bares q) (bare Δ)
@@ -128,7 +128,7 @@ module _ (key : Numbers) where
       ∙ ap (total (polynomials (K first)) d (n + m)) (λ t j. (each-polynomial (embed first) .map-scaled d (α j) (polynomial overF w v j) ∙ ap (polynomials (K first) .scaled d (embed first .map (α j))) (same j)) t))
     where
       same : (j : ℕ) → each (embed first) (suc d) (polynomial overF w v j) ≡ polynomial overK w (λ i k. embed first .map (v i k)) j
-      same j = coefficient-ext (K first) (suc d) _ _ (λ k l. coefficient-each (embed first) (suc d) (polynomial overF w v j) k ∙ sym (polynomial-along (embed first) (keyOf first n m H x) d w v j k))
+      same j = coefficient-ext (K first) (suc d) _ _ (λ k l. coefficient-each (embed first) (suc d) (polynomial overF w v j) k ∙ sym (polynomial-along (embed first) (keyOf first n m lent) d w v j k))
 
   -- the proof that is written is that over F
   pub proof-carried : (positions : List ℕ) → proofWords first overK (witnessOf n positions) (bares v) (bares r) (bares s) (bares α)

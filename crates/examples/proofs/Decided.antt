@@ -27,23 +27,27 @@ module _ (key : Numbers) where
   a₀ = replicate (lengths first (sizes key) .proof) 0
 
 module _ (key : Numbers) (positions : List ℕ) where
-  open Numbers key using (H, x, v, u, r, s, α)
+  open Numbers key using (lent, v, u, r, s, α)
 
   -- none of refusals 1 to 7 applies
   abbrev pub Passes : Type 0
-  Passes = firstOf (proveRows first (sizes key) H x positions u (bares v) (bares r) (bares s) (bares α) (t₀ key) (a₀ key)) ≡ Done
+  Passes = firstOf (proveRows first (sizes key) lent positions u (bares v) (bares r) (bares s) (bares α) (t₀ key) (a₀ key)) ≡ Done
 
-  abbrev Solving : Type 0
-  Solving = SolvesKey first (sizes key) H x positions
+  abbrev pub Solving : Type 0
+  Solving = SolvesKey first (sizes key) lent positions
 
-  answers-8 : Passes → (Solving → ⊥) → proveOf key positions .0 ≡ refusal 8
+  pub answers-done : Passes → Solving → proveOf key positions .0 ≡ Done
   unfolding proveOf proveOutcome levelAt
-  answers-8 e p = solved FIRST (sizes key) H x positions u (bares v) (bares r) (bares s) (bares α) (t₀ key) (a₀ key) refl .eight .1 (e, p)
+  answers-done e p = solved FIRST (sizes key) lent positions u (bares v) (bares r) (bares s) (bares α) (t₀ key) (a₀ key) refl .done .1 (e, p)
 
-  pub left : proveOf key positions .0 ≡ Done → proveOf key positions .1 ≡ proveResult first (sizes key) H x positions u (bares v) (bares r) (bares s) (bares α)
+  pub answers-8 : Passes → (Solving → ⊥) → proveOf key positions .0 ≡ refusal 8
+  unfolding proveOf proveOutcome levelAt
+  answers-8 e p = solved FIRST (sizes key) lent positions u (bares v) (bares r) (bares s) (bares α) (t₀ key) (a₀ key) refl .eight .1 (e, p)
+
+  pub left : proveOf key positions .0 ≡ Done → proveOf key positions .1 ≡ proveResult first (sizes key) lent positions u (bares v) (bares r) (bares s) (bares α)
   unfolding proveOf proveOutcome
-  left e = result-of (proveRows first (sizes key) H x positions u (bares v) (bares r) (bares s) (bares α) (t₀ key) (a₀ key) ++ topsRow first (sizes key) H x positions (bares v))
-      (proveResult first (sizes key) H x positions u (bares v) (bares r) (bares s) (bares α)) (t₀ key, a₀ key) refl e
+  left e = result-of (proveRows first (sizes key) lent positions u (bares v) (bares r) (bares s) (bares α) (t₀ key) (a₀ key) ++ topsRow first (sizes key) lent positions (bares v))
+      (proveResult first (sizes key) lent positions u (bares v) (bares r) (bares s) (bares α)) (t₀ key, a₀ key) refl e
 
 -- none of the positions 0 1 3 is 2
 pub three-8 : proveOf three (0 ∷ 1 ∷ 3 ∷ []) .0 ≡ refusal 8

@@ -57,7 +57,7 @@ order zero l = refl
 order (suc zero) l = refl
 order (suc (suc j)) l = absurd (omega arith)
 
-solves : Solves (keyOf first 2 1 (A .H) (A .x)) (positionAt positions)
+solves : Solves (keyOf first 2 1 (A .lent)) (positionAt positions)
 unfolding summed smallAt small digits F times horner timesX rule 𝟘s unit sum scale push top
 solves zero l = refl
 solves (suc e) l = absurd (omega arith)
@@ -71,7 +71,7 @@ numbers (suc zero) zero a b = refl
 numbers (suc zero) (suc k) a b = absurd (omega arith)
 numbers (suc (suc i)) k a b = absurd (omega arith)
 
-honest : HonestVerifier first (sizes A) (A .H) (A .x) (A .u) (bares (A .v)) (bares (A .r)) (bares (A .s)) q Δ masks
+honest : HonestVerifier first (sizes A) (A .lent) (A .u) (bares (A .v)) (bares (A .r)) (bares (A .s)) q Δ masks
 unfolding bares degree leadingZeros within all
 honest = record {
   q-length = refl;
@@ -83,9 +83,9 @@ honest = record {
 }
 
 -- key A instantiates completeness
-pub key-A-complete : Complete first (sizes A) (A .H) (A .x) (0 ∷ 1 ∷ []) (A .u) (bares (A .v)) (bares (A .r)) (bares (A .s)) (bares (A .α)) (t₀ A) (a₀ A) (bares (3 ∷ 4 ∷ [])) (bare 2) (bares [])
+pub key-A-complete : Complete first (sizes A) (A .lent) (0 ∷ 1 ∷ []) (A .u) (bares (A .v)) (bares (A .r)) (bares (A .s)) (bares (A .α)) (t₀ A) (a₀ A) (bares (3 ∷ 4 ∷ [])) (bare 2) (bares [])
 unfolding levelAt
-key-A-complete = completeness 1 (sizes A) (A .H) (A .x) positions (A .u) (bares (A .v)) (bares (A .r)) (bares (A .s)) (bares (A .α)) (t₀ A) (a₀ A) q Δ masks passes (order, solves) honest
+key-A-complete = completeness 1 (sizes A) (A .lent) positions (A .u) (bares (A .v)) (bares (A .r)) (bares (A .s)) (bares (A .α)) (t₀ A) (a₀ A) q Δ masks passes (order, solves) honest
 
 pub A-done : proveOf A (0 ∷ 1 ∷ []) .0 ≡ Done
 unfolding proveOf
@@ -101,7 +101,7 @@ A-a = ap (λ (p : List ℕ × List ℕ). p .1) (left A positions A-done) ∙ pro
 
 pub A-accepted : verdictOf A (1 ∷ 1 ∷ []) (3 ∷ 4 ∷ []) 2 [] (5 ∷ []) ≡ Accepted
 unfolding verdictOf proveOf
-A-accepted = sym (λ i. verifyOutcome first (sizes A) (A .H) (A .x) (A-t i) q Δ masks (bares (A .α)) (A-a i)) ∙ key-A-complete .accepted
+A-accepted = sym (λ i. verifyOutcome first (sizes A) (A .lent) (A-t i) q Δ masks (bares (A .α)) (A-a i)) ∙ key-A-complete .accepted
 
 -- one coefficient at Δ is itself
 at-Δ : (R : Ring) (c : ℕ → R .Carrier) (Δ : R .Carrier) → eval R 1 (vector 1 c) Δ ≡ c 0
@@ -113,7 +113,7 @@ at-Δ R c Δ = inner (c 0)
 
 -- so the equation holds of one proof at most
 abbrev Holds : ℕ → Type 0
-Holds a = AcceptsSlices first (system first (sizes A) (A .H) (A .x)) t q Δ masks (bares (A .α)) (bares (a ∷ []))
+Holds a = AcceptsSlices first (system first (sizes A) (A .lent)) t q Δ masks (bares (A .α)) (bares (a ∷ []))
 
 one-proof : (a b : ℕ) → Holds a → Holds b → small first a ≡ small first b
 unfolding proofAt degree leadingZeros smallAt
@@ -122,14 +122,14 @@ one-proof a b h k = embed-injective first (omega arith) (small first a) (small f
     is : (a : ℕ) → eval (K first) 1 (vector 1 (elementAt first (bares (a ∷ [])))) (element first Δ) ≡ embed first .map (smallAt first (a ∷ []) 0)
     is a = at-Δ (K first) (elementAt first (bares (a ∷ []))) (element first Δ) ∙ element-bares (a ∷ []) 0
 
-judges : (a : ℕ) → Judges first (sizes A) (A .H) (A .x) t q Δ masks (bares (A .α)) (bares (a ∷ [])) (verdictOf A t (3 ∷ 4 ∷ []) 2 [] (a ∷ []) ≡ Accepted) (verdictOf A t (3 ∷ 4 ∷ []) 2 [] (a ∷ []) ≡ Rejected)
+judges : (a : ℕ) → Judges first (sizes A) (A .lent) t q Δ masks (bares (A .α)) (bares (a ∷ [])) (verdictOf A t (3 ∷ 4 ∷ []) 2 [] (a ∷ []) ≡ Accepted) (verdictOf A t (3 ∷ 4 ∷ []) 2 [] (a ∷ []) ≡ Rejected)
 unfolding verdictOf verifyOutcome
-judges a = told first (sizes A) (A .H) (A .x) t q Δ masks (bares (A .α)) (bares (a ∷ [])) refl refl refl refl refl .1
+judges a = told first (sizes A) (A .lent) t q Δ masks (bares (A .α)) (bares (a ∷ [])) refl refl refl refl refl .1
 
 pub A-rejected : verdictOf A (1 ∷ 1 ∷ []) (3 ∷ 4 ∷ []) 2 [] (4 ∷ []) ≡ Rejected
 A-rejected = judges 4 .rejected .1 (not-refused, λ h. differ (ap (word first) (one-proof 4 5 h (judges 5 .accepted .0 A-accepted .1))))
   where
-    not-refused : firstOf (verifyRows first (sizes A) (A .H) (A .x) t q Δ masks (bares (A .α)) (bares (4 ∷ []))) ≡ Done
+    not-refused : firstOf (verifyRows first (sizes A) (A .lent) t q Δ masks (bares (A .α)) (bares (4 ∷ []))) ≡ Done
     not-refused = unfold bares degree leadingZeros below within all in refl
 
     differ : word first (small first 4) ≡ word first (small first 5) → ⊥

@@ -4,3 +4,4 @@ pub mod KeyA
 pub mod Hold
 pub mod Readings
 pub mod Accepted
+pub mod Target

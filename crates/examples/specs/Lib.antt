@@ -1,2 +1,3 @@
 pub mod Readings
 pub mod Starred
+pub mod Target

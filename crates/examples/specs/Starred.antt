@@ -11,7 +11,7 @@ use Rattle.refusal.specs.Verdict.{verdictNumber}
 use Rattle.refusal.specs.declared.Answer.{Answer}
 use Rattle.refusal.specs.declared.Verdict.{Verdict}
 use Rattle.key.specs.declared.Key.{Key}
-use Rattle.key.specs.Key.{degree, lengths}
+use Rattle.key.specs.Key.{degree, KeySlices, keySlices, lengths}
 use Rattle.constraints.specs.System.{System}
 use Rattle.constraints.specs.Slices.{maskedBytes, polynomialWords, valueWords, systemOf, witnessOf}
 use Rattle.prover.specs.Entry.{proveOutcome}
@@ -47,8 +47,7 @@ bares (a ∷ s) = bare a ++ bares s
 pub record Numbers : Type 0 where
   pub n : ℕ
   pub m : ℕ
-  pub H : List ℕ
-  pub x : List ℕ
+  pub lent : KeySlices
   pub v : List ℕ
   pub u : List ℕ
   pub r : List ℕ
@@ -56,10 +55,10 @@ pub record Numbers : Type 0 where
   pub α : List ℕ
 
 module _ (key : Numbers) where
-  open Numbers key using (n, m, H, x, v, u, r, s, α)
+  open Numbers key using (n, m, lent, v, u, r, s, α)
 
   abbrev system : System (K first)
-  system = systemOf first n m H x
+  system = systemOf first n m lent
 
   -- what constraints writes: t, and the words of all polynomials
   unfoldable pub tOf : (positions : List ℕ) → List ℕ
@@ -81,19 +80,19 @@ module _ (key : Numbers) where
 
   -- what prove answers and leaves in t and a, lent as zeros of their lengths
   unfoldable pub proveOf : (positions : List ℕ) → Answer × (List ℕ × List ℕ)
-  proveOf positions = proveOutcome first sizes H x positions u (bares v) (bares r) (bares s) (bares α) (replicate (lengths first sizes .bits) 0) (replicate (lengths first sizes .proof) 0)
+  proveOf positions = proveOutcome first sizes lent positions u (bares v) (bares r) (bares s) (bares α) (replicate (lengths first sizes .bits) 0) (replicate (lengths first sizes .proof) 0)
 
   -- what verify answers
   unfoldable pub verdictOf : (t q : List ℕ) (Δ : ℕ) (masks a : List ℕ) → Verdict
-  verdictOf t q Δ masks a = verifyOutcome first sizes H x t (bares q) (bare Δ) (bares masks) (bares α) (bares a)
+  verdictOf t q Δ masks a = verifyOutcome first sizes lent t (bares q) (bare Δ) (bares masks) (bares α) (bares a)
 
 -- "Key A is n = 2, m = 1, H = (2 1), x = (1 2), v = (1, 4), u = (1, 0)."; "α = 1, 2, 1"; d is 1, so there are no masks
 abbrev pub A : Numbers
-A = record { n = 2; m = 1; H = 2 ∷ 1 ∷ []; x = 1 ∷ 2 ∷ []; v = 1 ∷ 4 ∷ []; u = 1 ∷ 0 ∷ []; r = []; s = []; α = 1 ∷ 2 ∷ 1 ∷ [] }
+A = record { n = 2; m = 1; lent = keySlices (2 ∷ 1 ∷ []) (1 ∷ 2 ∷ []) (0 ∷ []); v = 1 ∷ 4 ∷ []; u = 1 ∷ 0 ∷ []; r = []; s = []; α = 1 ∷ 2 ∷ 1 ∷ [] }
 
 -- "n = 3": the document leaves the other numbers open, as neither the column tops nor this answer of prove depend on them
 abbrev pub three : Numbers
-three = record { n = 3; m = 1; H = 1 ∷ 0 ∷ 0 ∷ []; x = 0 ∷ 1 ∷ 2 ∷ []; v = 1 ∷ 2 ∷ 3 ∷ 4 ∷ 5 ∷ 6 ∷ []; u = replicate 6 0; r = 7 ∷ []; s = 8 ∷ []; α = 1 ∷ 2 ∷ 3 ∷ 4 ∷ [] }
+three = record { n = 3; m = 1; lent = keySlices (1 ∷ 0 ∷ 0 ∷ []) (0 ∷ 1 ∷ 2 ∷ []) (0 ∷ []); v = 1 ∷ 2 ∷ 3 ∷ 4 ∷ 5 ∷ 6 ∷ []; u = replicate 6 0; r = 7 ∷ []; s = 8 ∷ []; α = 1 ∷ 2 ∷ 3 ∷ 4 ∷ [] }
 
 abbrev pub starred : List Example
 starred =

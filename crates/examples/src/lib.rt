@@ -5,6 +5,7 @@ ghost use Prim.Native.Nat.{ℕ, _+_, _<_};
 ghost use Rattle.refusal.specs.declared.Answer.the-variants.{Done};
 ghost use Rattle.refusal.specs.declared.Verdict.the-variants.{Accepted};
 ghost use Rattle.field.specs.Level.{FIRST, levelAt};
+ghost use Rattle.key.specs.Key.{keySlices};
 ghost use Rattle.constraints.specs.Slices.{elementAt, systemOf};
 ghost use Rattle.constraints.specs.Truth.{HonestNumbers, evaluated};
 ghost use Rattle.verifier.specs.Complete.{HonestVerifier};
@@ -22,6 +23,7 @@ pub fn agreement(
     key: Key,
     h: &[u16],
     x: &[u16],
+    y: &[u16],
     positions: &[u8],
     u: &[u8],
     v: &[u16],
@@ -31,10 +33,10 @@ pub fn agreement(
     delta: &[u16],
     values: &mut [u16],
 ) -> Answers
-    ensures { λ r. ⌜ (r .constraints ≡ Done → r .values ≡ Done → HonestNumbers (levelAt FIRST) (systemOf (levelAt FIRST) (key .n) (key .m) (now (h .entry)) (now (x .entry))) (now (u .entry)) (now (v .entry)) (now (q .entry)) (now (delta .entry)) → (j : ℕ) → j < key .n + key .m → elementAt (levelAt FIRST) (now (values .exit)) j ≡ evaluated (levelAt FIRST) (systemOf (levelAt FIRST) (key .n) (key .m) (now (h .entry)) (now (x .entry))) (now (polynomials .exit)) (now (delta .entry)) j) ⌝ }
+    ensures { λ r. ⌜ (r .constraints ≡ Done → r .values ≡ Done → HonestNumbers (levelAt FIRST) (systemOf (levelAt FIRST) (key .n) (key .m) (keySlices (now (h .entry)) (now (x .entry)) (now (y .entry)))) (now (u .entry)) (now (v .entry)) (now (q .entry)) (now (delta .entry)) → (j : ℕ) → j < key .n + key .m → elementAt (levelAt FIRST) (now (values .exit)) j ≡ evaluated (levelAt FIRST) (systemOf (levelAt FIRST) (key .n) (key .m) (keySlices (now (h .entry)) (now (x .entry)) (now (y .entry)))) (now (polynomials .exit)) (now (delta .entry)) j) ⌝ }
 {
-    let written = constraints::constraints(key, h, x, positions, u, v, t, polynomials);
-    let valued = constraints::values(key, h, x, t, q, delta, values);
+    let written = constraints::constraints(key, h, x, y, positions, u, v, t, polynomials);
+    let valued = constraints::values(key, h, x, y, t, q, delta, values);
     Answers {
         constraints: written,
         values: valued,
@@ -51,6 +53,7 @@ pub fn completeness(
     key: Key,
     h: &[u16],
     x: &[u16],
+    y: &[u16],
     positions: &[u8],
     u: &[u8],
     v: &[u16],
@@ -63,10 +66,10 @@ pub fn completeness(
     delta: &[u16],
     masks: &[u16],
 ) -> Judgement
-    ensures { λ o. ⌜ (o .prove ≡ Done → HonestVerifier (levelAt FIRST) key (now (h .entry)) (now (x .entry)) (now (u .entry)) (now (v .entry)) (now (r .entry)) (now (s .entry)) (now (q .entry)) (now (delta .entry)) (now (masks .entry)) → o .verify ≡ Accepted) ⌝ }
+    ensures { λ o. ⌜ (o .prove ≡ Done → HonestVerifier (levelAt FIRST) key (keySlices (now (h .entry)) (now (x .entry)) (now (y .entry))) (now (u .entry)) (now (v .entry)) (now (r .entry)) (now (s .entry)) (now (q .entry)) (now (delta .entry)) (now (masks .entry)) → o .verify ≡ Accepted) ⌝ }
 {
-    let proved = prover::prove(key, h, x, positions, u, v, r, s, alpha, t, a);
-    let judged = verifier::verify(key, h, x, t, q, delta, masks, alpha, a);
+    let proved = prover::prove(key, h, x, y, positions, u, v, r, s, alpha, t, a);
+    let judged = verifier::verify(key, h, x, y, t, q, delta, masks, alpha, a);
     Judgement {
         prove: proved,
         verify: judged,

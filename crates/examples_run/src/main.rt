@@ -102,6 +102,7 @@ fn constrained(
     key: Key,
     h: &[u16],
     x: &[u16],
+    y: &[u16],
     positions: &[u8],
     u: &[u8],
     v: &[u16],
@@ -111,7 +112,7 @@ fn constrained(
 )
     requires { ⌜ 0 < step ⌝ }
 {
-    if done(constraints::constraints(key, h, x, positions, u, v, t, polynomials)) {
+    if done(constraints::constraints(key, h, x, y, positions, u, v, t, polynomials)) {
         text(b", t");
         bytes(t);
         text(b", polynomials");
@@ -127,6 +128,7 @@ fn proved(
     key: Key,
     h: &[u16],
     x: &[u16],
+    y: &[u16],
     positions: &[u8],
     u: &[u8],
     v: &[u16],
@@ -136,7 +138,7 @@ fn proved(
     t: &mut [u8],
     a: &mut [u16],
 ) {
-    if done(prover::prove(key, h, x, positions, u, v, r, s, alpha, t, a)) {
+    if done(prover::prove(key, h, x, y, positions, u, v, r, s, alpha, t, a)) {
         text(b", t");
         bytes(t);
         text(b", a");
@@ -161,28 +163,43 @@ fn weights_a(first: u16) -> [u16; 36] {
     alpha
 }
 
-// Key A with these positions, by constraints and by prove.
-fn key_a(positions: &[u8], none: &[u16]) {
+// Key A with this y and these positions, by constraints and by prove.
+fn key_a(name: &[u8], target: u16, positions: &[u8], none: &[u16]) {
     let key = Key { n: 2, m: 1 };
     let h = [2u16, 1];
     let x = [1u16, 2];
+    let y = [target];
     let u = [1u8, 0];
     let v = two(1, 4);
     let alpha = weights_a(1);
     let mut t = [0u8; 2];
     let mut polynomials = [0u16; 72];
     let mut a = [0u16; 12];
-    text(b"key A, positions");
+    text(name);
+    text(b", positions");
     bytes(positions);
     text(b", constraints:");
-    constrained(key, &h, &x, positions, &u, &v, &mut t, &mut polynomials, 2);
-    text(b"key A, positions");
+    constrained(
+        key,
+        &h,
+        &x,
+        &y,
+        positions,
+        &u,
+        &v,
+        &mut t,
+        &mut polynomials,
+        2,
+    );
+    text(name);
+    text(b", positions");
     bytes(positions);
     text(b", prove:");
     proved(
         key,
         &h,
         &x,
+        &y,
         positions,
         &u,
         &v,
@@ -194,43 +211,46 @@ fn key_a(positions: &[u8], none: &[u16]) {
     );
 }
 
-// Key A with t = 1 1, by values.
-fn values_a() {
+// Key A with this y and this t, by values.
+fn values_a(name: &[u8], target: u16, t: &[u8]) {
     let key = Key { n: 2, m: 1 };
     let h = [2u16, 1];
     let x = [1u16, 2];
-    let t = [1u8, 1];
+    let y = [target];
     let q = two(3, 4);
     let delta = element(2);
     let mut values = [0u16; 36];
-    text(b"key A, values:");
-    if done(constraints::values(key, &h, &x, &t, &q, &delta, &mut values)) {
+    text(name);
+    text(b", values:");
+    if done(constraints::values(key, &h, &x, &y, t, &q, &delta, &mut values)) {
         elements(&values, 1);
     }
     text(b"\n");
 }
 
-// Key A with t = 1 1 and this a, by verify.
-fn verify_a(a: &[u16], none: &[u16]) {
+// Key A with this y, this t and this a, by verify.
+fn verify_a(name: &[u8], target: u16, t: &[u8], a: &[u16], none: &[u16]) {
     let key = Key { n: 2, m: 1 };
     let h = [2u16, 1];
     let x = [1u16, 2];
-    let t = [1u8, 1];
+    let y = [target];
     let q = two(3, 4);
     let delta = element(2);
     let alpha = weights_a(1);
-    text(b"key A, a =");
+    text(name);
+    text(b", a =");
     elements(a, 1);
     text(b", verify:");
-    judged(verifier::verify(key, &h, &x, &t, &q, &delta, none, &alpha, a));
+    judged(verifier::verify(key, &h, &x, &y, t, &q, &delta, none, &alpha, a));
     text(b"\n");
 }
 
-// n = 3 with these positions, by constraints and by prove; m = 1, H = 1 0 0, x = 0 1 2.
-fn three(positions: &[u8]) {
+// n = 3 with this y and these positions, by constraints and by prove; m = 1, H = 1 0 0, x = 0 1 2.
+fn three(name: &[u8], target: u16, positions: &[u8]) {
     let key = Key { n: 3, m: 1 };
     let h = [1u16, 0, 0];
     let x = [0u16, 1, 2];
+    let y = [target];
     let u = [0u8; 6];
     let mut v = [0u16; 72];
     v[0] = 1;
@@ -249,17 +269,31 @@ fn three(positions: &[u8]) {
     let mut t = [0u8; 6];
     let mut polynomials = [0u16; 144];
     let mut a = [0u16; 24];
-    text(b"n = 3, positions");
+    text(name);
+    text(b", positions");
     bytes(positions);
     text(b", constraints:");
-    constrained(key, &h, &x, positions, &u, &v, &mut t, &mut polynomials, 3);
-    text(b"n = 3, positions");
+    constrained(
+        key,
+        &h,
+        &x,
+        &y,
+        positions,
+        &u,
+        &v,
+        &mut t,
+        &mut polynomials,
+        3,
+    );
+    text(name);
+    text(b", positions");
     bytes(positions);
     text(b", prove:");
     proved(
         key,
         &h,
         &x,
+        &y,
         positions,
         &u,
         &v,
@@ -276,6 +310,7 @@ fn prover_entries(
     key: Key,
     h: &[u16],
     x: &[u16],
+    y: &[u16],
     positions: &[u8],
     u: &[u8],
     v: &[u16],
@@ -286,9 +321,9 @@ fn prover_entries(
     proof: &mut [u16],
 ) {
     text(b": constraints");
-    done(constraints::constraints(key, h, x, positions, u, v, t, polynomials));
+    done(constraints::constraints(key, h, x, y, positions, u, v, t, polynomials));
     text(b", prove");
-    done(prover::prove(key, h, x, positions, u, v, masks, masks, alpha, t, proof));
+    done(prover::prove(key, h, x, y, positions, u, v, masks, masks, alpha, t, proof));
 }
 
 // The answers of values and verify to one key.
@@ -296,6 +331,7 @@ fn verifier_entries(
     key: Key,
     h: &[u16],
     x: &[u16],
+    y: &[u16],
     t: &[u8],
     q: &[u16],
     delta: &[u16],
@@ -305,13 +341,13 @@ fn verifier_entries(
     values: &mut [u16],
 ) {
     text(b", values");
-    done(constraints::values(key, h, x, t, q, delta, values));
+    done(constraints::values(key, h, x, y, t, q, delta, values));
     text(b", verify");
-    judged(verifier::verify(key, h, x, t, q, delta, masks, alpha, a));
+    judged(verifier::verify(key, h, x, y, t, q, delta, masks, alpha, a));
     text(b"\n");
 }
 
-// Key A with other sizes, or with another first word in H, x, v, q, the challenge, the weights or a.
+// Key A with other sizes, or with another first word in H, x, y, v, q, the challenge, the weights or a.
 fn edge(
     name: &[u8],
     none: &[u16],
@@ -319,6 +355,7 @@ fn edge(
     m: usize,
     h: u16,
     x: u16,
+    y: u16,
     v: u16,
     q: u16,
     delta: u16,
@@ -332,12 +369,14 @@ fn edge(
     let key = Key { n, m };
     let matrix = [h, 1];
     let vector = [x, 2];
+    let target = [y];
     let weights = weights_a(alpha);
     text(name);
     prover_entries(
         key,
         &matrix,
         &vector,
+        &target,
         &[0u8, 1],
         &[1u8, 0],
         &two(v, 4),
@@ -351,6 +390,7 @@ fn edge(
         key,
         &matrix,
         &vector,
+        &target,
         &[1u8, 1],
         &two(q, 4),
         &element(delta),
@@ -363,20 +403,22 @@ fn edge(
 
 // 2047 and 2048 in each slice of key A.
 fn limits(none: &[u16]) {
-    edge(b"H 2047", none, 2, 1, 2047, 1, 1, 3, 2, 1, 5);
-    edge(b"H 2048", none, 2, 1, 2048, 1, 1, 3, 2, 1, 5);
-    edge(b"x 2047", none, 2, 1, 2, 2047, 1, 3, 2, 1, 5);
-    edge(b"x 2048", none, 2, 1, 2, 2048, 1, 3, 2, 1, 5);
-    edge(b"v 2047", none, 2, 1, 2, 1, 2047, 3, 2, 1, 5);
-    edge(b"v 2048", none, 2, 1, 2, 1, 2048, 3, 2, 1, 5);
-    edge(b"q 2047", none, 2, 1, 2, 1, 1, 2047, 2, 1, 5);
-    edge(b"q 2048", none, 2, 1, 2, 1, 1, 2048, 2, 1, 5);
-    edge(b"challenge 2047", none, 2, 1, 2, 1, 1, 3, 2047, 1, 5);
-    edge(b"challenge 2048", none, 2, 1, 2, 1, 1, 3, 2048, 1, 5);
-    edge(b"weights 2047", none, 2, 1, 2, 1, 1, 3, 2, 2047, 5);
-    edge(b"weights 2048", none, 2, 1, 2, 1, 1, 3, 2, 2048, 5);
-    edge(b"a 2047", none, 2, 1, 2, 1, 1, 3, 2, 1, 2047);
-    edge(b"a 2048", none, 2, 1, 2, 1, 1, 3, 2, 1, 2048);
+    edge(b"H 2047", none, 2, 1, 2047, 1, 0, 1, 3, 2, 1, 5);
+    edge(b"H 2048", none, 2, 1, 2048, 1, 0, 1, 3, 2, 1, 5);
+    edge(b"x 2047", none, 2, 1, 2, 2047, 0, 1, 3, 2, 1, 5);
+    edge(b"x 2048", none, 2, 1, 2, 2048, 0, 1, 3, 2, 1, 5);
+    edge(b"y 2047", none, 2, 1, 2, 1, 2047, 1, 3, 2, 1, 5);
+    edge(b"y 2048", none, 2, 1, 2, 1, 2048, 1, 3, 2, 1, 5);
+    edge(b"v 2047", none, 2, 1, 2, 1, 0, 2047, 3, 2, 1, 5);
+    edge(b"v 2048", none, 2, 1, 2, 1, 0, 2048, 3, 2, 1, 5);
+    edge(b"q 2047", none, 2, 1, 2, 1, 0, 1, 2047, 2, 1, 5);
+    edge(b"q 2048", none, 2, 1, 2, 1, 0, 1, 2048, 2, 1, 5);
+    edge(b"challenge 2047", none, 2, 1, 2, 1, 0, 1, 3, 2047, 1, 5);
+    edge(b"challenge 2048", none, 2, 1, 2, 1, 0, 1, 3, 2048, 1, 5);
+    edge(b"weights 2047", none, 2, 1, 2, 1, 0, 1, 3, 2, 2047, 5);
+    edge(b"weights 2048", none, 2, 1, 2, 1, 0, 1, 3, 2, 2048, 5);
+    edge(b"a 2047", none, 2, 1, 2, 1, 0, 1, 3, 2, 1, 2047);
+    edge(b"a 2048", none, 2, 1, 2, 1, 0, 1, 3, 2, 1, 2048);
 }
 
 // H for n = 64 and m = 63, from zeros: one at column e of row e.
@@ -388,7 +430,7 @@ fn units(h: &mut [u16])
     }
 }
 
-// n = 64, m = 63: row e of H is one at column e and zero elsewhere, x and u are zero, positions 0 to 63, and v and the weights have two words
+// n = 64, m = 63: row e of H is one at column e and zero elsewhere, x, y and u are zero, positions 0 to 63, and v and the weights have two words
 // that are not zero.
 fn largest() {
     let positions = [
@@ -471,12 +513,14 @@ fn largest() {
     let mut h = [0u16; 4032];
     units(&mut h);
     let x = [0u16; 64];
+    let y = [0u16; 63];
     let masks = [0u16; 60];
     text(b"n = 64, m = 63");
     prover_entries(
         key,
         &h,
         &x,
+        &y,
         &positions,
         &[0u8; 384],
         &v,
@@ -490,6 +534,7 @@ fn largest() {
         key,
         &h,
         &x,
+        &y,
         &t,
         &v,
         &element(2),
@@ -502,27 +547,34 @@ fn largest() {
 
 fn main() {
     let none = [0u16; 0];
-    let mut y = [0u16; 12];
-    y[1] = 1;
-    let mut y11 = [0u16; 12];
-    y11[11] = 1;
+    let mut power_1 = [0u16; 12];
+    power_1[1] = 1;
+    let mut power_11 = [0u16; 12];
+    power_11[11] = 1;
     product(b"1024 times 2", &element(1024), &element(2));
     product(b"1024 times 1024", &element(1024), &element(1024));
     product(b"2047 times 2", &element(2047), &element(2));
-    product(b"Y^11 times Y", &y11, &y);
-    product(b"Y^11 times Y^11", &y11, &y11);
-    key_a(&[0u8, 1], &none);
-    values_a();
-    verify_a(&element(5), &none);
-    verify_a(&element(4), &none);
-    three(&[1u8, 1, 1]);
-    three(&[0u8, 1, 3]);
-    key_a(&[1u8, 0], &none);
-    three(&[0u8, 1, 4]);
-    edge(b"n = 1, m = 1", &none, 1, 1, 2, 1, 1, 3, 2, 1, 5);
-    edge(b"n = 65, m = 1", &none, 65, 1, 2, 1, 1, 3, 2, 1, 5);
-    edge(b"n = 2, m = 1", &none, 2, 1, 2, 1, 1, 3, 2, 1, 5);
-    edge(b"n = 2, m = 2", &none, 2, 2, 2, 1, 1, 3, 2, 1, 5);
+    product(b"Y^11 times Y", &power_11, &power_1);
+    product(b"Y^11 times Y^11", &power_11, &power_11);
+    key_a(b"key A", 0, &[0u8, 1], &none);
+    values_a(b"key A", 0, &[1u8, 1]);
+    verify_a(b"key A", 0, &[1u8, 1], &element(5), &none);
+    verify_a(b"key A", 0, &[1u8, 1], &element(4), &none);
+    three(b"n = 3", 0, &[1u8, 1, 1]);
+    three(b"n = 3", 0, &[0u8, 1, 3]);
+    key_a(b"key A", 0, &[1u8, 0], &none);
+    three(b"n = 3", 0, &[0u8, 1, 4]);
+    key_a(b"key A, y = 5", 5, &[1u8, 0], &none);
+    values_a(b"key A, y = 5", 5, &[0u8, 0]);
+    verify_a(b"key A, y = 5", 5, &[0u8, 0], &element(5), &none);
+    verify_a(b"key A, y = 5", 5, &[0u8, 0], &element(4), &none);
+    key_a(b"key A, y = 5", 5, &[0u8, 1], &none);
+    three(b"n = 3, y = 1", 1, &[1u8, 0, 2]);
+    three(b"n = 3, y = 1", 1, &[0u8, 1, 2]);
+    edge(b"n = 1, m = 1", &none, 1, 1, 2, 1, 0, 1, 3, 2, 1, 5);
+    edge(b"n = 65, m = 1", &none, 65, 1, 2, 1, 0, 1, 3, 2, 1, 5);
+    edge(b"n = 2, m = 1", &none, 2, 1, 2, 1, 0, 1, 3, 2, 1, 5);
+    edge(b"n = 2, m = 2", &none, 2, 2, 2, 1, 0, 1, 3, 2, 1, 5);
     product(b"2047 times 1", &element(2047), &element(1));
     product(b"2048 times 1", &element(2048), &element(1));
     limits(&none);

@@ -167,13 +167,14 @@ module _ (R : Ring) where
           whole : h + h ≡ 2 ^ d
           whole = ap (λ i. i + i) half ∙ pow-double (d - 1) ∙ ap (λ i. 2 ^ i) more
 
-  -- the totals of all rows, and Δ^d for each column
-  module _ (n m d : ℕ) (α x : ℕ → Carrier) (H : ℕ → ℕ → Carrier) (t : ℕ → ℕ → Bool) (q : ℕ → ℕ → Carrier) (Δ : Carrier) where
-    pub values-total : (β : ℕ → Carrier) → ((i : ℕ) → i < n → β i ≡ multiplier R n m H α i) → sum R n (λ i. sum R n (λ j. leaf R α x (β i) j ⊗ value R d (t i) (q i) Δ j)) ⊕ sum R n α ⊗ raise R Δ d ≡ weightedSum R n m α (columnValue R n d H x t q Δ) (checkValue R n d H x t q Δ)
+  -- the totals of all rows, Δ^d for each column and y(e) Δ^d for each check
+  module _ (n m d : ℕ) (α x y : ℕ → Carrier) (H : ℕ → ℕ → Carrier) (t : ℕ → ℕ → Bool) (q : ℕ → ℕ → Carrier) (Δ : Carrier) where
+    pub values-total : (β : ℕ → Carrier) → ((i : ℕ) → i < n → β i ≡ multiplier R n m H α i)
+        → sum R n (λ i. sum R n (λ j. leaf R α x (β i) j ⊗ value R d (t i) (q i) Δ j)) ⊕ (sum R n α ⊕ sum R m (λ e. y e ⊗ α (n + e))) ⊗ raise R Δ d ≡ weightedSum R n m α (columnValue R n d H x y t q Δ) (checkValue R n d H x y t q Δ)
     unfolding columnValue checkValue
     values-total β h =
-        ap (λ y. y ⊕ sum R n α ⊗ raise R Δ d) (sum-cong R n (λ i. share i (β i)) (λ i. share i (multiplier R n m H α i)) (λ i l. ap (share i) (h i l)))
-        ∙ sym (weighted-rows R n m α x H (λ i j. value R d (t i) (q i) Δ j) (raise R Δ d))
+        ap (λ s. s ⊕ (sum R n α ⊕ sum R m (λ e. y e ⊗ α (n + e))) ⊗ raise R Δ d) (sum-cong R n (λ i. share i (β i)) (λ i. share i (multiplier R n m H α i)) (λ i l. ap (share i) (h i l)))
+        ∙ sym (weighted-rows R n m α x y H (λ i j. value R d (t i) (q i) Δ j) (raise R Δ d))
       where
         share : ℕ → Carrier → Carrier
         share i b = sum R n (λ j. leaf R α x b j ⊗ value R d (t i) (q i) Δ j)

@@ -9,7 +9,7 @@ use Rattle.field.specs.Ring.{Ring}
 use Rattle.field.specs.RingLaws.{ring}
 use Rattle.row.specs.Polynomial.{sum, monomial, z, column, check}
 use Rattle.row.specs.Step.{Added}
-use Rattle.row.proofs.SumLaws.{sum-more, sum-cong}
+use Rattle.row.proofs.SumLaws.{sum-more, sum-cong, monomial-other}
 use Rattle.folding.specs.Weights.{weightedSum, multiplier, leaf}
 use Rattle.folding.specs.Steps.{Leaves}
 
@@ -48,7 +48,7 @@ module _ (R : Ring) where
   sum-swap zero m f = sym (sum-zero m (λ j. 𝟘) (λ j l. refl))
   sum-swap (suc n) m f = ap (λ s. s ⊕ sum R m (f n)) (sum-swap n m f) ∙ sym (sum-add m (λ j. sum R n (λ i. f i j)) (f n))
 
-  module _ (n m : ℕ) (α x : ℕ → Carrier) (H c : ℕ → ℕ → Carrier) (y : Carrier) where
+  module _ (n m : ℕ) (α x y : ℕ → Carrier) (H c : ℕ → ℕ → Carrier) (p : Carrier) where
     -- x'(i) and its weight
     abbrev mixed : ℕ → Carrier
     mixed i = sum R n (λ j. x j ⊗ c i j)
@@ -56,21 +56,30 @@ module _ (R : Ring) where
     abbrev β : ℕ → Carrier
     β = multiplier R n m H α
 
-    columns : sum R n (λ j. α j ⊗ (sum R n (λ i. c i j) ⊕ y)) ≡ sum R n (λ i. sum R n (λ j. α j ⊗ c i j)) ⊕ sum R n α ⊗ y
+    columns : sum R n (λ j. α j ⊗ (sum R n (λ i. c i j) ⊕ p)) ≡ sum R n (λ i. sum R n (λ j. α j ⊗ c i j)) ⊕ sum R n α ⊗ p
     columns =
-        sum-cong R n (λ j. α j ⊗ (sum R n (λ i. c i j) ⊕ y)) (λ j. sum R n (λ i. α j ⊗ c i j) ⊕ y ⊗ α j) (λ j l. R .mul-add (α j) (sum R n (λ i. c i j)) y ∙ ap₂ _⊕_ (sum-mul n (α j) (λ i. c i j)) (R .mul-comm (α j) y))
-        ∙ sum-add n (λ j. sum R n (λ i. α j ⊗ c i j)) (λ j. y ⊗ α j)
-        ∙ ap₂ _⊕_ (sum-swap n n (λ j i. α j ⊗ c i j)) (sym (sum-mul n y α) ∙ R .mul-comm y (sum R n α))
+        sum-cong R n (λ j. α j ⊗ (sum R n (λ i. c i j) ⊕ p)) (λ j. sum R n (λ i. α j ⊗ c i j) ⊕ p ⊗ α j) (λ j l. R .mul-add (α j) (sum R n (λ i. c i j)) p ∙ ap₂ _⊕_ (sum-mul n (α j) (λ i. c i j)) (R .mul-comm (α j) p))
+        ∙ sum-add n (λ j. sum R n (λ i. α j ⊗ c i j)) (λ j. p ⊗ α j)
+        ∙ ap₂ _⊕_ (sum-swap n n (λ j i. α j ⊗ c i j)) (sym (sum-mul n p α) ∙ R .mul-comm p (sum R n α))
 
-    checks : sum R m (λ e. α (n + e) ⊗ sum R n (λ i. H e i ⊗ mixed i)) ≡ sum R n (λ i. β i ⊗ mixed i)
+    products : sum R m (λ e. α (n + e) ⊗ sum R n (λ i. H e i ⊗ mixed i)) ≡ sum R n (λ i. β i ⊗ mixed i)
     unfolding multiplier
-    checks =
+    products =
         sum-cong R m (λ e. α (n + e) ⊗ sum R n (λ i. H e i ⊗ mixed i)) (λ e. sum R n (λ i. mixed i ⊗ (H e i ⊗ α (n + e)))) (λ e l. sum-mul n (α (n + e)) (λ i. H e i ⊗ mixed i) ∙ sum-cong R n (λ i. α (n + e) ⊗ (H e i ⊗ mixed i)) (λ i. mixed i ⊗ (H e i ⊗ α (n + e))) (λ i o. turned (α (n + e)) (H e i) (mixed i)))
         ∙ sum-swap m n (λ e i. mixed i ⊗ (H e i ⊗ α (n + e)))
         ∙ sum-cong R n (λ i. sum R m (λ e. mixed i ⊗ (H e i ⊗ α (n + e)))) (λ i. β i ⊗ mixed i) (λ i l. sym (sum-mul m (mixed i) (λ e. H e i ⊗ α (n + e))) ∙ R .mul-comm (mixed i) (β i))
       where
         turned : (a b d : Carrier) → a ⊗ (b ⊗ d) ≡ d ⊗ (b ⊗ a)
         turned a b d = simp ring
+
+    checks : sum R m (λ e. α (n + e) ⊗ (sum R n (λ i. H e i ⊗ mixed i) ⊕ y e ⊗ p)) ≡ sum R n (λ i. β i ⊗ mixed i) ⊕ sum R m (λ e. y e ⊗ α (n + e)) ⊗ p
+    checks =
+        sum-cong R m (λ e. α (n + e) ⊗ (sum R n (λ i. H e i ⊗ mixed i) ⊕ y e ⊗ p)) (λ e. α (n + e) ⊗ sum R n (λ i. H e i ⊗ mixed i) ⊕ p ⊗ (y e ⊗ α (n + e))) (λ e l. apart (α (n + e)) (sum R n (λ i. H e i ⊗ mixed i)) (y e) p)
+        ∙ sum-add m (λ e. α (n + e) ⊗ sum R n (λ i. H e i ⊗ mixed i)) (λ e. p ⊗ (y e ⊗ α (n + e)))
+        ∙ ap₂ _⊕_ products (sym (sum-mul m p (λ e. y e ⊗ α (n + e))) ∙ R .mul-comm p (sum R m (λ e. y e ⊗ α (n + e))))
+      where
+        apart : (a b d q : Carrier) → a ⊗ (b ⊕ d ⊗ q) ≡ a ⊗ b ⊕ q ⊗ (d ⊗ a)
+        apart a b d q = simp ring
 
     row : (i : ℕ) → sum R n (λ j. α j ⊗ c i j) ⊕ β i ⊗ mixed i ≡ sum R n (λ j. leaf R α x (β i) j ⊗ c i j)
     unfolding leaf
@@ -79,19 +88,19 @@ module _ (R : Ring) where
         joined : (a d b e : Carrier) → a ⊗ d ⊕ b ⊗ (e ⊗ d) ≡ (a ⊕ e ⊗ b) ⊗ d
         joined a d b e = simp ring
 
-    -- c i j is row i's share in column j, and y is added to every column
-    pub weighted-rows : weightedSum R n m α (λ j. sum R n (λ i. c i j) ⊕ y) (λ e. sum R n (λ i. H e i ⊗ sum R n (λ j. x j ⊗ c i j)))
-        ≡ sum R n (λ i. sum R n (λ j. leaf R α x (multiplier R n m H α i) j ⊗ c i j)) ⊕ sum R n α ⊗ y
+    -- c i j is row i's share in column j; p is added to every column, and y e times p to check e
+    pub weighted-rows : weightedSum R n m α (λ j. sum R n (λ i. c i j) ⊕ p) (λ e. sum R n (λ i. H e i ⊗ sum R n (λ j. x j ⊗ c i j)) ⊕ y e ⊗ p)
+        ≡ sum R n (λ i. sum R n (λ j. leaf R α x (multiplier R n m H α i) j ⊗ c i j)) ⊕ (sum R n α ⊕ sum R m (λ e. y e ⊗ α (n + e))) ⊗ p
     unfolding weightedSum
     weighted-rows =
         ap₂ _⊕_ columns checks
-        ∙ turned (sum R n (λ i. sum R n (λ j. α j ⊗ c i j))) (sum R n α ⊗ y) (sum R n (λ i. β i ⊗ mixed i))
-        ∙ ap (λ s. s ⊕ sum R n α ⊗ y)
+        ∙ turned (sum R n (λ i. sum R n (λ j. α j ⊗ c i j))) (sum R n α) (sum R n (λ i. β i ⊗ mixed i)) (sum R m (λ e. y e ⊗ α (n + e))) p
+        ∙ ap (λ s. s ⊕ (sum R n α ⊕ sum R m (λ e. y e ⊗ α (n + e))) ⊗ p)
         (sym (sum-add n (λ i. sum R n (λ j. α j ⊗ c i j)) (λ i. β i ⊗ mixed i))
         ∙ sum-cong R n (λ i. sum R n (λ j. α j ⊗ c i j) ⊕ β i ⊗ mixed i) (λ i. sum R n (λ j. leaf R α x (β i) j ⊗ c i j)) (λ i l. row i))
       where
-        turned : (a b d : Carrier) → a ⊕ b ⊕ d ≡ a ⊕ d ⊕ b
-        turned a b d = simp ring
+        turned : (a b d e q : Carrier) → a ⊕ b ⊗ q ⊕ (d ⊕ e ⊗ q) ≡ a ⊕ d ⊕ (b ⊕ e) ⊗ q
+        turned a b d e q = simp ring
 
   -- what is added may be written in another way
   pub added-same : (f g c e : ℕ → Carrier) (n : ℕ) → ((k : ℕ) → k < n → c k ≡ e k) → Added R f g c n → Added R f g e n
@@ -123,19 +132,24 @@ module _ (R : Ring) where
       rest = λ k l. b .rest k l ∙ a .rest k l;
     }
 
-  monomial-low : (y : Carrier) (d k : ℕ) → k < d → monomial R y d k ≡ 𝟘
-  unfolding monomial
-  monomial-low y zero k h = absurd (omega arith)
-  monomial-low y (suc d) zero h = refl
-  monomial-low y (suc d) (suc k) h = monomial-low y d k (omega arith)
-
-  -- a coefficient below X^d of the weighted sum of the polynomials, where β are the weights of all x'
-  pub weighted-polynomials : (n m d : ℕ) (H : ℕ → ℕ → Carrier) (x : ℕ → Carrier) (w : ℕ → ℕ → Bool) (v : ℕ → ℕ → Carrier) (α β : ℕ → Carrier) (k : ℕ) → k < d → ((i : ℕ) → i < n → β i ≡ multiplier R n m H α i)
-      → sum R n (λ i. sum R n (λ j. leaf R α x (β i) j ⊗ z R d (w i) (v i) j k)) ≡ weightedSum R n m α (λ j. column R n d H x w v j k) (λ e. check R n d H x w v e k)
+  -- a coefficient below X^d of the weighted sum of the polynomials, where β are the weights of all x': y has no part in it
+  pub weighted-polynomials : (n m d : ℕ) (H : ℕ → ℕ → Carrier) (x y : ℕ → Carrier) (w : ℕ → ℕ → Bool) (v : ℕ → ℕ → Carrier) (α β : ℕ → Carrier) (k : ℕ) → k < d → ((i : ℕ) → i < n → β i ≡ multiplier R n m H α i)
+      → sum R n (λ i. sum R n (λ j. leaf R α x (β i) j ⊗ z R d (w i) (v i) j k)) ≡ weightedSum R n m α (λ j. column R n d H x y w v j k) (λ e. check R n d H x y w v e k)
   unfolding column check
-  weighted-polynomials n m d H x w v α β k h b =
-      sum-cong R n (λ i. sum R n (λ j. leaf R α x (β i) j ⊗ z R d (w i) (v i) j k)) (λ i. sum R n (λ j. leaf R α x (multiplier R n m H α i) j ⊗ z R d (w i) (v i) j k)) (λ i l. ap (λ y. sum R n (λ j. leaf R α x y j ⊗ z R d (w i) (v i) j k)) (b i l))
-      ∙ sym (weighted-rows n m α x H (λ i j. z R d (w i) (v i) j k) (monomial R 𝟙 d k) ∙ ap (λ y. sum R n (λ i. sum R n (λ j. leaf R α x (multiplier R n m H α i) j ⊗ z R d (w i) (v i) j k)) ⊕ sum R n α ⊗ y) (monomial-low 𝟙 d k h) ∙ none (sum R n (λ i. sum R n (λ j. leaf R α x (multiplier R n m H α i) j ⊗ z R d (w i) (v i) j k))) (sum R n α))
+  weighted-polynomials n m d H x y w v α β k h b =
+      sum-cong R n (λ i. share i (β i)) (λ i. share i (multiplier R n m H α i)) (λ i l. ap (share i) (b i l))
+      ∙ sym (none (sum R n (λ i. share i (multiplier R n m H α i))) (sum R n α ⊕ sum R m (λ e. y e ⊗ α (n + e))))
+      ∙ sym (weighted-rows n m α x y H (λ i j. z R d (w i) (v i) j k) 𝟘)
+      ∙ (λ t. weightedSum R n m α (λ j. sum R n (λ i. z R d (w i) (v i) j k) ⊕ low 𝟙 t) (λ e. sum R n (λ i. H e i ⊗ sum R n (λ j. x j ⊗ z R d (w i) (v i) j k)) ⊕ (nil (y e) ∙ low (y e)) t))
     where
+      share : ℕ → Carrier → Carrier
+      share i a = sum R n (λ j. leaf R α x a j ⊗ z R d (w i) (v i) j k)
+
+      low : (a : Carrier) → 𝟘 ≡ monomial R a d k
+      low a = sym (monomial-other R a d k (λ e. omega arith))
+
+      nil : (a : Carrier) → a ⊗ 𝟘 ≡ 𝟘
+      nil a = simp ring
+
       none : (a b : Carrier) → a ⊕ b ⊗ 𝟘 ≡ a
       none a b = simp ring

@@ -90,7 +90,7 @@ fn shares(
     }
 }
 
-// Writes the d coefficients below X^d of the sum of the n + m polynomials, each times its weight. beta is room for n elements, work for
+// Writes the d coefficients below X^d of the sum of the n + m polynomials, each times its weight: y has no part in them. beta is room for n elements, work for
 // (d + 1) 2^d.
 pub fn weighted(
     dst: &mut [u16],
@@ -108,7 +108,7 @@ pub fn weighted(
 )
     requires { ⌜ LentKey (levelAt level) n m (now h) (now x) × Words (levelAt level) (now offsets) × Words (levelAt level) (now alpha) × (0 < levelAt level .coordinates) × (d < 64) × (n ≤ 2 ^ d) ⌝ }
     requires { ⌜ (length (now positions) ≡ n) × (length (now offsets) ≡ levelAt level .coordinates * (d * n)) × Fits (levelAt level) (n + m) (length (now alpha)) × Fits (levelAt level) d (length (now dst)) × Fits (levelAt level) n (length (now beta)) × Fits (levelAt level) ((d + 1) * 2 ^ d) (length (now work)) ⌝ }
-    ensures { λ _. ⌜ Step (levelAt level) (now (dst .entry)) (now (dst .exit)) (λ f g. (k : ℕ) → k < d → g k ≡ weightedSum (K (levelAt level)) n m (el (levelAt level) (now (alpha .entry))) (λ j. column (K (levelAt level)) n d (entryOf (levelAt level) n (now (h .entry))) (smallOf (levelAt level) (now (x .entry))) (digitOf d (now (positions .entry))) (elementOf (levelAt level) d (now (offsets .entry))) j k) (λ e. check (K (levelAt level)) n d (entryOf (levelAt level) n (now (h .entry))) (smallOf (levelAt level) (now (x .entry))) (digitOf d (now (positions .entry))) (elementOf (levelAt level) d (now (offsets .entry))) e k)) ⌝ }
+    ensures { λ _. ⌜ Step (levelAt level) (now (dst .entry)) (now (dst .exit)) (λ f g. (y : ℕ → K (levelAt level) .Carrier) (k : ℕ) → k < d → g k ≡ weightedSum (K (levelAt level)) n m (el (levelAt level) (now (alpha .entry))) (λ j. column (K (levelAt level)) n d (entryOf (levelAt level) n (now (h .entry))) (smallOf (levelAt level) (now (x .entry))) y (digitOf d (now (positions .entry))) (elementOf (levelAt level) d (now (offsets .entry))) j k) (λ e. check (K (levelAt level)) n d (entryOf (levelAt level) n (now (h .entry))) (smallOf (levelAt level) (now (x .entry))) y (digitOf d (now (positions .entry))) (elementOf (levelAt level) d (now (offsets .entry))) e k)) ⌝ }
 {
     row::clear(dst);
     row::clear(work);

@@ -6,7 +6,7 @@ ghost use Rattle.field.specs.Level.{levelAt, K};
 ghost use Rattle.field.specs.Word.{odd};
 ghost use Rattle.field.specs.Packed.{Holds, Multiplies};
 ghost use Rattle.row.specs.Elements.{el, Fits, Words, Within, Bits, Held, Tabled, valueOf};
-ghost use Rattle.row.specs.Lent.{LentKey, smallOf, entryOf, bitOf, elementOf};
+ghost use Rattle.row.specs.Lent.{LentKey, LentTarget, smallOf, entryOf, bitOf, elementOf};
 ghost use Rattle.row.specs.Polynomial.{sum, value, columnValue, checkValue};
 ghost use Rattle.row.specs.Step.{Step, Put};
 ghost use Rattle.folding.specs.Weights.{weightedSum, leaf};
@@ -17,6 +17,7 @@ use field::Element;
 use field::Multiples;
 use row::elements;
 use row::products;
+use row::sums;
 
 // The factor of a table times each of the first n elements of src, written to dst.
 fn scale(dst: &mut [u16], multiples: Multiples, src: &[u16], n: usize, level: usize)
@@ -207,6 +208,7 @@ pub fn weighted(
     d: usize,
     h: &[u16],
     x: &[u16],
+    y: &[u16],
     bits: &[u8],
     numbers: &[u16],
     delta: &[u16],
@@ -217,9 +219,9 @@ pub fn weighted(
     second: &mut [u16],
     level: usize,
 ) -> Element
-    requires { ⌜ LentKey (levelAt level) n m (now h) (now x) × Words (levelAt level) (now numbers) × Words (levelAt level) (now delta) × Words (levelAt level) (now alpha) × Bits (now bits) × (0 < levelAt level .coordinates) × (1 ≤ d) × (n ≤ 2 ^ d) ⌝ }
+    requires { ⌜ LentKey (levelAt level) n m (now h) (now x) × Words (levelAt level) (now numbers) × Words (levelAt level) (now delta) × Words (levelAt level) (now alpha) × Bits (now bits) × (0 < levelAt level .coordinates) × (1 ≤ d) × (n ≤ 2 ^ d) × LentTarget (levelAt level) m (now y) ⌝ }
     requires { ⌜ (length (now bits) ≡ d * n) × (length (now numbers) ≡ levelAt level .coordinates * (d * n)) × (length (now delta) ≡ levelAt level .coordinates) × Fits (levelAt level) (n + m) (length (now alpha)) × Fits (levelAt level) n (length (now beta)) × Fits (levelAt level) n (length (now scaled)) × Fits (levelAt level) (2 ^ d) (length (now work)) × Fits (levelAt level) (2 ^ d) (length (now second)) ⌝ }
-    ensures { λ r. ⌜ Holds (levelAt level) (r .words) (weightedSum (K (levelAt level)) n m (el (levelAt level) (now (alpha .entry))) (columnValue (K (levelAt level)) n d (entryOf (levelAt level) n (now (h .entry))) (smallOf (levelAt level) (now (x .entry))) (bitOf d (now (bits .entry))) (elementOf (levelAt level) d (now (numbers .entry))) (el (levelAt level) (now (delta .entry)) 0)) (checkValue (K (levelAt level)) n d (entryOf (levelAt level) n (now (h .entry))) (smallOf (levelAt level) (now (x .entry))) (bitOf d (now (bits .entry))) (elementOf (levelAt level) d (now (numbers .entry))) (el (levelAt level) (now (delta .entry)) 0))) ⌝ }
+    ensures { λ r. ⌜ Holds (levelAt level) (r .words) (weightedSum (K (levelAt level)) n m (el (levelAt level) (now (alpha .entry))) (columnValue (K (levelAt level)) n d (entryOf (levelAt level) n (now (h .entry))) (smallOf (levelAt level) (now (x .entry))) (smallOf (levelAt level) (now (y .entry))) (bitOf d (now (bits .entry))) (elementOf (levelAt level) d (now (numbers .entry))) (el (levelAt level) (now (delta .entry)) 0)) (checkValue (K (levelAt level)) n d (entryOf (levelAt level) n (now (h .entry))) (smallOf (levelAt level) (now (x .entry))) (smallOf (levelAt level) (now (y .entry))) (bitOf d (now (bits .entry))) (elementOf (levelAt level) d (now (numbers .entry))) (el (levelAt level) (now (delta .entry)) 0))) ⌝ }
 {
     row::clear(scaled);
     row::clear(work);
@@ -243,6 +245,8 @@ pub fn weighted(
         level,
     );
     let power = products::raised(challenge, d, level);
-    let tops = total(alpha, n, level).times(power, level);
+    let columns = total(alpha, n, level);
+    let checks = sums::mix(alpha, n, 1, 0, y, m, level);
+    let tops = columns.plus(checks, level).times(power, level);
     shares.plus(tops, level)
 }

@@ -30,6 +30,7 @@ abbrev pub lengths : Level → Key → Lengths
 lengths l key = record {
   matrix = key .m * key .n;
   vector = key .n;
+  target = key .m;
   positions = shape key .rows;
   bits = shape key .rows * shape key .places;
   elements = l .coordinates * (shape key .rows * shape key .places);
@@ -56,11 +57,28 @@ abbrev pub withins : Level → List (List ℕ) → Bool
 withins l [] = true
 withins l (s ∷ others) = within l s && withins l others
 
+-- the slices lent for a key: "H has m rows of n elements of F, row after row. The vector x has n elements of F", and y, "m elements of F"
+pub record KeySlices : Type 0 where
+  pub h : List ℕ
+  pub x : List ℕ
+  pub y : List ℕ
+
+abbrev pub keySlices : (h x y : List ℕ) → KeySlices
+keySlices h x y = record { h = h; x = x; y = y }
+
+-- with their lengths
+abbrev pub keyLent : Lengths → KeySlices → List (List ℕ × ℕ)
+keyLent len k = (k .h, len .matrix) ∷ (k .x, len .vector) ∷ (k .y, len .target) ∷ []
+
+-- no element is above the level's limit
+abbrev pub keyWithin : Level → KeySlices → Bool
+keyWithin l k = withins l (k .h ∷ k .x ∷ k .y ∷ [])
+
 -- every byte has at most k binary digits
 unfoldable pub below : ℕ → List ℕ → Bool
 below k s = all (λ b. ltb b (2 ^ k)) s
 
--- places 'key' and 'material', a row for each number; of each whether it is in order: 4 "an element of H or x is above 2047",
+-- places 'key' and 'material', a row for each number; of each whether it is in order: 4 "an element of H or x is above 2047", or of y,
 -- 5 "a byte of u or t is above 1", 6 "a coordinate of an element of K is above 2047", 7 "a position is 2^d or more"
 abbrev pub contents : (key bits coordinates positions : Bool) → List (Bool × ℕ)
 contents key bits coordinates positions = (not key, 4) ∷ (not bits, 5) ∷ (not coordinates, 6) ∷ (not positions, 7) ∷ []

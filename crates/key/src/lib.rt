@@ -4,22 +4,23 @@ ghost use Prim.Native.Nat.{_+_, _≤_, _<_};
 ghost use lib.Dec.{eqb};
 ghost use Rattle.refusal.specs.Answer.{firstOf};
 ghost use Rattle.field.specs.Level.{levelAt};
-ghost use Rattle.key.specs.Key.{degree, lengths, sizes, Sized, below, contents};
+ghost use Rattle.key.specs.Key.{degree, lengths, sizes, Sized, below, keySlices, keyWithin, contents};
 use field::Level;
 use refusal::Answer;
 use refusal::Refusal;
 
-// The sizes of a key; H and x are lent beside it.
+// The sizes of a key; H, x and y are lent beside it.
 pub struct Key {
     pub n: usize,
     pub m: usize,
 }
 
-// The lengths of lent slices, in bytes or words: H, x, positions, bits, elements of K for the correlations, all polynomials,
+// The lengths of lent slices, in bytes or words: H, x, y, positions, bits, elements of K for the correlations, all polynomials,
 // all values and as many weights, the masks, the proof, and one element of K.
 pub struct Lengths {
     pub matrix: usize,
     pub vector: usize,
+    pub target: usize,
     pub positions: usize,
     pub bits: usize,
     pub elements: usize,
@@ -54,6 +55,7 @@ impl Key {
         Lengths {
             matrix: m * n,
             vector: n,
+            target: m,
             positions: n,
             bits,
             elements: w * bits,
@@ -100,6 +102,13 @@ pub fn over(s: &[u8], digits: usize) -> u8
         i += 1;
     }
     any >> digits
+}
+
+// Zero exactly when no element of the key's slices is above the limit.
+pub fn excess(h: &[u16], x: &[u16], y: &[u16], level: usize) -> u16
+    ensures { λ r. ⌜ eqb r 0 ≡ keyWithin (levelAt level) (keySlices (now (h .entry)) (now (x .entry)) (now (y .entry))) ⌝ }
+{
+    field::excess(h, level) | (field::excess(x, level) | field::excess(y, level))
 }
 
 // The first of refusals 4 to 7 that applies; each is told by a number that is zero where it does not.

@@ -12,6 +12,7 @@ use Rattle.key.proofs.Sized.{degree-lt}
 pub record Bounds (n : Lengths) : Type 0 where
   pub matrix : n .matrix ≤ 128 * 128
   pub vector : n .vector ≤ 128
+  pub target : n .target ≤ 128
   pub bits : n .bits ≤ 128 * 7
   pub one : n .one ≤ 32
   pub elements : n .elements ≤ 32 * (128 * 7)
@@ -32,6 +33,7 @@ bounds key s =
     record {
       matrix = mul-le-mul m n;
       vector = n;
+      target = m;
       bits = nd;
       one = w;
       elements = mul-le-mul w nd;

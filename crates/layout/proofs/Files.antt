@@ -16,8 +16,8 @@ use Rattle.field.specs.declared.Level.{Level}
 use Rattle.key.specs.Key.{Sized, lengths}
 use Rattle.key.proofs.Sized.{sized}
 use Rattle.layout.specs.declared.Row.{Row}
-use Rattle.layout.specs.declared.Kind.the-variants.{Sizes, Elements, Serial, Bits, Coordinates}
-use Rattle.layout.specs.Layout.{serialLength, keySegment, keyEnd, groupSegment, checkSegment, groupEnd, checkEnd, keyTests, packageRows, checkFileRows, packageTests, checkFileTests}
+use Rattle.layout.specs.declared.Kind.the-variants.{Sizes, Elements, Target, Serial, Bits, Coordinates}
+use Rattle.layout.specs.Layout.{serialLength, optional, firstRows, keySegment, keyEnd, groupSegment, checkSegment, groupEnd, checkEnd, keyTests, packageRows, checkFileRows, packageTests, checkFileTests}
 use Rattle.layout.specs.Tests.{keyAt, keyOf, tests, after, endTests}
 use Rattle.layout.proofs.Rows.{head-passed, tests-append, after-append}
 
@@ -45,7 +45,7 @@ module _ (l : Level) (s : List ℕ) where
   unfolding checkFileRows
   check-file-end = after-append 0 (packageRows l s) (checkSegment l s) ∙ ap (λ at. after at (checkSegment l s)) package-end
 
-  -- the tests of a package are P1 to P5 of six rows, "then P6"
+  -- the tests of a package are P1 to P5 of its rows, "then P6"
   pub package-tests : packageTests l s ≡ tests l s 0 (packageRows l s) ++ endTests s (after 0 (packageRows l s))
   unfolding packageRows
   package-tests = ap₂ (λ (t : List (Bool × ℕ)) (at : ℕ). t ++ endTests s at) (sym (tests-append l s 0 (keySegment l s) (groupSegment l s))) (sym package-end)
@@ -53,10 +53,11 @@ module _ (l : Level) (s : List ℕ) where
   pub package-rows : packageRows l s ≡ sizesRow
       ∷ record { tag = 0x02; len = 2 * lengths l (keyOf s) .matrix; kind = Elements }
       ∷ record { tag = 0x03; len = 2 * lengths l (keyOf s) .vector; kind = Elements }
-      ∷ record { tag = 0x05; len = serialLength (word s (keyEnd l s + 1)); kind = Serial }
+      ∷ (optional s (after 0 (firstRows l (keyOf s))) (record { tag = 0x04; len = 2 * lengths l (keyOf s) .target; kind = Target })
+      ++ (record { tag = 0x05; len = serialLength (word s (keyEnd l s + 1)); kind = Serial }
       ∷ record { tag = 0x06; len = lengths l (keyOf s) .bits; kind = Bits }
       ∷ record { tag = 0x07; len = 2 * lengths l (keyOf s) .proof; kind = Coordinates }
-      ∷ []
+      ∷ []))
   unfolding packageRows
   package-rows = refl
 

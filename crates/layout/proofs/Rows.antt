@@ -1,6 +1,6 @@
 -- Laws of the tests that the readers run, for any rows.
 use mathlib.Core.Path.{_≡_, refl, sym, ap, ap₂, _∙_}
-use mathlib.Core.Bool.{Bool}
+use mathlib.Core.Bool.{Bool, true, false, cond}
 use mathlib.Core.List.{List, [], _∷_, _++_, append-assoc}
 use Prim.Native.Nat.{ℕ, _+_, _-_, _≤_}
 use native.Mathlib.Omega.{arith}
@@ -18,6 +18,7 @@ use Rattle.field.specs.declared.Level.{Level}
 use Rattle.layout.specs.declared.Row.{Row}
 use Rattle.layout.specs.declared.Step.{Step}
 use Rattle.layout.specs.declared.Step.the-variants as step
+use Rattle.layout.specs.Layout.{optional}
 use Rattle.layout.specs.Tests.{valueTests, rowTests, tests, after}
 use Rattle.layout.specs.Steps.{stepped, outcome, further}
 
@@ -91,18 +92,23 @@ module _ (xs ys : List (Bool × ℕ)) (p : ℕ) where
   pub first-ends : {at : ℕ} → stepped (firstOf xs) p ≡ step.Next at → (firstOf (xs ++ ys) ≡ firstOf ys) × (at ≡ p)
   first-ends e = let h = step-next (firstOf xs) p e in (after-done xs ys (h .0), h .1)
 
--- the step for rows after rows
+-- the step for rows after rows; which they are may depend on the position where they start
 module _ (l : Level) (s : List ℕ) (at : ℕ) where
-  by-step : (rows others : List Row) (r : Step) → outcome l s at rows ≡ r → further r (λ p. outcome l s p others) ≡ outcome l s at (rows ++ others)
+  by-step : (rows : List Row) (others : ℕ → List Row) (r : Step) → outcome l s at rows ≡ r → further r (λ p. outcome l s p (others p)) ≡ outcome l s at (rows ++ others (after at rows))
   by-step rows others (step.Next p) e =
-      let h = first-ends (tests l s at rows) (tests l s (after at rows) others) (after at rows) e in
-      ap (λ q. outcome l s q others) (h .1)
-      ∙ ap₂ (λ (a : Answer) (q : ℕ). stepped a q) (sym (h .0) ∙ ap firstOf (sym (tests-append l s at rows others))) (sym (after-append at rows others))
+      let more = others (after at rows) in
+      let h = first-ends (tests l s at rows) (tests l s (after at rows) more) (after at rows) e in
+      ap (λ q. outcome l s q (others q)) (h .1)
+      ∙ ap₂ (λ (a : Answer) (q : ℕ). stepped a q) (sym (h .0) ∙ ap firstOf (sym (tests-append l s at rows more))) (sym (after-append at rows more))
   by-step rows others (step.Refused r) e =
-      ap (λ a. stepped a (after at (rows ++ others))) (first-stops (tests l s at rows) (tests l s (after at rows) others) (after at rows) e ∙ ap firstOf (sym (tests-append l s at rows others)))
+      let more = others (after at rows) in
+      ap (λ a. stepped a (after at (rows ++ more))) (first-stops (tests l s at rows) (tests l s (after at rows) more) (after at rows) e ∙ ap firstOf (sym (tests-append l s at rows more)))
+
+  pub outcome-then : (rows : List Row) (others : ℕ → List Row) {r q : Step} → r ≡ outcome l s at rows → q ≡ further r (λ p. outcome l s p (others p)) → q ≡ outcome l s at (rows ++ others (after at rows))
+  outcome-then rows others {r} e f = f ∙ by-step rows others r (sym e)
 
   pub outcome-more : (rows others : List Row) {r q : Step} → r ≡ outcome l s at rows → q ≡ further r (λ p. outcome l s p others) → q ≡ outcome l s at (rows ++ others)
-  outcome-more rows others {r} e f = f ∙ by-step rows others r (sym e)
+  outcome-more rows others e f = outcome-then rows (λ p. others) e f
 
 -- one row, by its answer
 module _ (l : Level) (s : List ℕ) (at : ℕ) (row : Row) where
@@ -113,3 +119,11 @@ module _ (l : Level) (s : List ℕ) (at : ℕ) (row : Row) where
   pub row-ends : firstOf (rowTests l s at row) ≡ Done → step.Next (at + 3 + row .len) ≡ outcome l s at (row ∷ [])
   unfolding tests after
   row-ends e = ap (λ a. stepped a (at + 3 + row .len)) (sym (after-done (rowTests l s at row) [] e))
+
+  -- a row that may be absent, by the byte there
+  pub row-there : {b : Bool} → b ≡ eqb (getD s at 0) (row .tag) → b ≡ true → outcome l s at (row ∷ []) ≡ outcome l s at (optional s at row)
+  row-there e h = ap (λ t. outcome l s at (cond t (row ∷ []) [])) (sym h ∙ e)
+
+  pub row-absent : {b : Bool} → b ≡ eqb (getD s at 0) (row .tag) → b ≡ false → step.Next at ≡ outcome l s at (optional s at row)
+  unfolding tests after
+  row-absent e h = ap (λ t. outcome l s at (cond t (row ∷ []) [])) (sym h ∙ e)

@@ -4,26 +4,40 @@ use mathlib.Core.Bool.{Bool, cond}
 use mathlib.Core.List.{List, [], _∷_, _++_}
 use Prim.Native.Nat.{ℕ, _+_, _*_}
 use lib.Dec.{eqb}
+use lib.ListN.{getD}
 use Rattle.copying.specs.Words.{word}
 use Rattle.field.specs.declared.Level.{Level}
 use Rattle.key.specs.declared.Key.{Key}
 use Rattle.key.specs.Key.{lengths}
 use Rattle.layout.specs.declared.Row.{Row}
-use Rattle.layout.specs.declared.Kind.the-variants.{Sizes, Elements, Serial, Bits, Coordinates}
+use Rattle.layout.specs.declared.Kind.the-variants.{Sizes, Elements, Target, Serial, Bits, Coordinates}
 use Rattle.layout.specs.Tests.{keyOf, tests, after, endTests}
 
 -- "Field 05 may have length 2 or 4": a stated length is judged against 4 where it is 4, and any other against 2
 abbrev pub serialLength : ℕ → ℕ
 serialLength stated = cond (eqb stated 4) 4 2
 
-module _ (l : Level) (key : Key) (s : List ℕ) (at : ℕ) where
+-- a field that may be absent: it is the next one exactly where the byte at the position is its tag, and past the end that byte is 0
+abbrev pub optional : List ℕ → ℕ → Row → List Row
+optional s at row = cond (eqb (getD s at 0) (row .tag)) (row ∷ []) []
+
+module _ (l : Level) (key : Key) where
   -- "01 sizes (n, m, one byte each); 02 H (2mn bytes); 03 x (2n)"
-  abbrev pub keyRows : List Row
-  keyRows =
+  abbrev pub firstRows : List Row
+  firstRows =
       record { tag = 0x01; len = 2; kind = Sizes }
       ∷ record { tag = 0x02; len = 2 * lengths l key .matrix; kind = Elements }
       ∷ record { tag = 0x03; len = 2 * lengths l key .vector; kind = Elements }
       ∷ []
+
+  -- "field 04, y, of 2m bytes, between 03 and 05"
+  abbrev pub targetRow : Row
+  targetRow = record { tag = 0x04; len = 2 * lengths l key .target; kind = Target }
+
+module _ (l : Level) (key : Key) (s : List ℕ) (at : ℕ) where
+  -- "The package may have field 04 .. After field 03 the tags 04 and 05 may both come next"
+  abbrev pub keyRows : List Row
+  keyRows = firstRows l key ++ optional s (after at (firstRows l key)) (targetRow l key)
 
   -- "05 serial (.. unsigned, any value); 06 t (nd bytes); 07 a (24d)", 12 coordinates of two bytes each being the level's
   abbrev pub groupRows : List Row

@@ -4,7 +4,7 @@ use mathlib.Core.List.{List, [], _∷_, _++_}
 use Prim.Native.Nat.{ℕ, _+_, _-_}
 use lib.Dec.{ltb, eqb}
 use lib.ListN.{length, getD}
-use Rattle.lists.specs.Words.{part}
+use Rattle.lists.specs.Words.{part, all}
 use Rattle.copying.specs.Words.{word, words, fromBytes}
 use Rattle.field.specs.declared.Level.{Level}
 use Rattle.field.specs.Word.{within}
@@ -13,7 +13,7 @@ use Rattle.key.specs.Key.{sizes, below}
 use Rattle.layout.specs.declared.Row.{Row}
 use Rattle.layout.specs.declared.Part.{Part}
 use Rattle.layout.specs.declared.Kind.{Kind}
-use Rattle.layout.specs.declared.Kind.the-variants.{Sizes, Elements, Serial, Bits, Coordinates}
+use Rattle.layout.specs.declared.Kind.the-variants.{Sizes, Elements, Target, Serial, Bits, Coordinates}
 
 -- "n, m, one byte each", at a position
 abbrev pub keyAt : List ℕ → ℕ → Key
@@ -27,10 +27,15 @@ keyOf s = keyAt s 3
 abbrev pub longSerial : List ℕ → Bool
 longSerial c = eqb (length c) 4 && ltb (fromBytes c) 65536
 
--- P5: "1, 2, 4, 5, 6 .. as above, for the field's content", and 19
+-- "all its elements are zero"
+abbrev pub zeros : List ℕ → Bool
+zeros s = all (λ x. eqb x 0) s
+
+-- P5: "1, 2, 4, 5, 6 .. as above, for the field's content", 14 "at the place of values after 4", and 19
 abbrev pub valueTests : Level → Kind → List ℕ → List (Bool × ℕ)
 valueTests l Sizes c = sizes l (keyAt c 0)
 valueTests l Elements c = (not (within l (words c)), 4) ∷ []
+valueTests l Target c = (not (within l (words c)), 4) ∷ (zeros (words c), 14) ∷ []
 valueTests l Serial c = (longSerial c, 19) ∷ []
 valueTests l Bits c = (not (below 1 c), 5) ∷ []
 valueTests l Coordinates c = (not (within l (words c)), 6) ∷ []

@@ -2,7 +2,8 @@
 ghost use mathlib.Core.Path.{_≡_};
 ghost use mathlib.Core.List.{List, [], _∷_};
 ghost use Prim.Native.Nat.{_+_, _-_, _≤_, _<_};
-ghost use lib.ListN.{length};
+ghost use lib.Dec.{eqb};
+ghost use lib.ListN.{length, getD};
 ghost use Rattle.refusal.specs.Answer.{firstOf};
 ghost use Rattle.copying.specs.Words.{word, words};
 ghost use Rattle.field.specs.declared.Level.{Level};
@@ -10,8 +11,9 @@ ghost use Rattle.field.specs.Level.{FIRST, levelAt};
 ghost use Rattle.field.specs.Word.{within};
 ghost use Rattle.key.specs.Key.{Sized};
 ghost use Rattle.layout.specs.declared.Row.{Row};
-ghost use Rattle.layout.specs.Layout.{serialLength, groupRows, checkRows, keyTests, keyEnd};
-ghost use Rattle.layout.specs.Tests.{keyAt, longSerial, valueTests, rowTests, endTests, partOf};
+ghost use Rattle.layout.specs.declared.Kind.the-variants.{Target};
+ghost use Rattle.layout.specs.Layout.{serialLength, optional, groupRows, checkRows, keyTests, keyEnd};
+ghost use Rattle.layout.specs.Tests.{keyAt, zeros, longSerial, valueTests, rowTests, endTests, partOf};
 ghost use Rattle.layout.specs.Steps.{Whole, stepped, outcome, further};
 use field::FIRST;
 use field::Level;
@@ -23,6 +25,7 @@ use refusal::Refusal;
 pub enum Kind {
     Sizes,
     Elements,
+    Target,
     Serial,
     Bits,
     Coordinates,
@@ -47,6 +50,8 @@ impl Row {
     pub const H: u8 = 0x02;
 
     pub const X: u8 = 0x03;
+
+    pub const Y: u8 = 0x04;
 
     pub const SERIAL: u8 = 0x05;
 
@@ -107,6 +112,37 @@ fn words_within(c: &[u8]) -> bool
     true
 }
 
+// Whether each number of two bytes is zero.
+fn words_zero(c: &[u8]) -> bool
+    ensures { λ r. ⌜ r ≡ zeros (words (now (c .entry))) ⌝ }
+{
+    let mut i = 0;
+    while i < c.len() {
+        if c.len() - i < 2 {
+            return true;
+        }
+        if copying::word_at(c, i) != 0 {
+            return false;
+        }
+        i += 2;
+    }
+    true
+}
+
+// P5 of y: an element above the limit, then no element but zeros.
+fn target_values(c: &[u8]) -> Answer
+    ensures { λ r. ⌜ r ≡ firstOf (valueTests (levelAt FIRST) Target (now (c .entry))) ⌝ }
+{
+    if !words_within(c) {
+        return Answer::Refused(Refusal::KEY_ELEMENT);
+    }
+    if words_zero(c) {
+        Answer::Refused(Refusal::ZERO_TARGET)
+    } else {
+        Answer::Done
+    }
+}
+
 // Whether a serial has four bytes and would fit two.
 fn long_serial(c: &[u8]) -> bool
     ensures { λ r. ⌜ r ≡ longSerial (now (c .entry)) ⌝ }
@@ -130,6 +166,7 @@ fn values(c: &[u8], kind: Kind) -> Answer
                 Answer::Refused(Refusal::KEY_ELEMENT)
             }
         }
+        Kind::Target => target_values(c),
         Kind::Serial => {
             if long_serial(c) {
                 Answer::Refused(Refusal::LONG_SERIAL)
@@ -187,6 +224,13 @@ fn check_row(s: &[u8], at: usize, row: Row) -> Answer
     values(&s[start..end], kind)
 }
 
+// Whether the byte at a position is this tag; past the end it is 0.
+fn has_tag(s: &[u8], at: usize, tag: u8) -> bool
+    ensures { λ r. ⌜ r ≡ eqb (getD (now (s .entry)) at 0) tag ⌝ }
+{
+    copying::byte_at(s, at) == tag as usize
+}
+
 // The field where those before it end: its end, or the first refusal.
 fn read_row(s: &[u8], step: Step, row: Row) -> Step
     ensures { λ r. ⌜ r ≡ further step (λ at. outcome (levelAt FIRST) (now (s .entry)) at (row ∷ [])) ⌝ }
@@ -198,6 +242,22 @@ fn read_row(s: &[u8], step: Step, row: Row) -> Step
             match answer {
                 Answer::Refused(refusal) => Step::Refused(refusal),
                 Answer::Done => Step::Next(at + HEAD + row.len),
+            }
+        }
+    }
+}
+
+// The same for a field that may be absent: it is read where the byte there is its tag.
+fn read_optional(s: &[u8], step: Step, row: Row) -> Step
+    ensures { λ r. ⌜ r ≡ further step (λ at. outcome (levelAt FIRST) (now (s .entry)) at (optional (now (s .entry)) at row)) ⌝ }
+{
+    match step {
+        Step::Refused(refusal) => Step::Refused(refusal),
+        Step::Next(at) => {
+            if has_tag(s, at, row.tag) {
+                read_row(s, Step::Next(at), row)
+            } else {
+                Step::Next(at)
             }
         }
     }
@@ -222,7 +282,13 @@ pub fn read_key(s: &[u8]) -> Step
         len: 2 * len.vector,
         kind: Kind::Elements,
     };
-    read_row(s, read_row(s, sizes, h), x)
+    let y = Row {
+        tag: Row::Y,
+        len: 2 * len.target,
+        kind: Kind::Target,
+    };
+    let step = read_row(s, read_row(s, sizes, h), x);
+    read_optional(s, step, y)
 }
 
 // The length that a serial at a position is judged against: 4 where 4 is stated, else 2.

@@ -6,7 +6,7 @@ use Prim.Native.Nat.{ℕ, _+_, _≤_, _<_}
 use native.Mathlib.Omega.{arith}
 use borrow.Author.Tests.{ltb-false, le-ltb}
 use lib.Dec.{eqb}
-use lib.ListN.{length, drop, length-take}
+use lib.ListN.{length, getD, drop, length-take}
 use Rattle.lists.specs.Words.{part}
 use Rattle.copying.specs.Words.{Bytes, word, fromBytes}
 use Rattle.copying.proofs.Bytes.{from-lt, bytes-part}
@@ -17,7 +17,7 @@ use Rattle.refusal.proofs.Answers.{None, none, pass, after-done}
 use Rattle.field.specs.declared.Level.{Level}
 use Rattle.key.specs.Key.{Sized}
 use Rattle.layout.specs.declared.Row.{Row}
-use Rattle.layout.specs.Layout.{serialLength, keyEnd, packageRows, packageTests, checkFileRows, checkFileTests}
+use Rattle.layout.specs.Layout.{serialLength, optional, firstRows, targetRow, keySegment, keyEnd, groupSegment, checkSegment, packageRows, packageTests, checkFileRows, checkFileTests}
 use Rattle.layout.specs.Tests.{keyOf, tests, after, endTests, partOf}
 use Rattle.layout.specs.Steps.{Whole}
 use Rattle.package.specs.declared.Contents.{Contents}
@@ -94,11 +94,39 @@ serial-most stated = pick (eqb stated 4)
 pub part-lt : (s : List ℕ) (i n : ℕ) → Bytes s → n ≤ 4 → fromBytes (part i n s) < 4294967296
 part-lt s i n b h = from-lt (part i n s) (bytes-part s i n b) (rw (length-take n (drop i s)) (omega arith))
 
-module _ (l : Level) (s : List ℕ) (b : Bytes s) where
-  pub package-serial : serialOf s (packageRows l s) < 4294967296
-  unfolding packageRows partOf
-  package-serial = part-lt s (partOf 0x05 0 (packageRows l s) .start) _ b (serial-most (word s (keyEnd l s + 1)))
+-- the length that rows give a tag, and others after them
+rows-most : (tag k at : ℕ) (rows others : List Row) → partOf tag at rows .len ≤ k → ((p : ℕ) → partOf tag p others .len ≤ k) → partOf tag at (rows ++ others) .len ≤ k
+unfolding partOf
+rows-most tag k at [] others h g = g at
+rows-most tag k at (row ∷ rows) others h g = pick (eqb (row .tag) tag) h (rows-most tag k (at + 3 + row .len) rows others)
+  where
+    pick : (b : Bool) → cond b (record { start = at + 3; len = row .len }) (partOf tag (at + 3 + row .len) rows) .len ≤ k
+        → (partOf tag (at + 3 + row .len) rows .len ≤ k → ((p : ℕ) → partOf tag p others .len ≤ k) → partOf tag (at + 3 + row .len) (rows ++ others) .len ≤ k)
+        → cond b (record { start = at + 3; len = row .len }) (partOf tag (at + 3 + row .len) (rows ++ others)) .len ≤ k
+    pick true h later = h
+    pick false h later = later h g
 
-  pub check-file-serial : serialOf s (checkFileRows l s) < 4294967296
-  unfolding packageRows checkFileRows partOf
-  check-file-serial = part-lt s (partOf 0x05 0 (checkFileRows l s) .start) _ b (serial-most (word s (keyEnd l s + 1)))
+-- y is no serial, whether it is there or not
+target-most : (l : Level) (s : List ℕ) (i at : ℕ) → partOf 0x05 at (optional s i (targetRow l (keyOf s))) .len ≤ 4
+unfolding partOf
+target-most l s i at = pick (eqb (getD s i 0) 0x04)
+  where
+    pick : (b : Bool) → partOf 0x05 at (cond b (targetRow l (keyOf s) ∷ []) []) .len ≤ 4
+    pick true = omega arith
+    pick false = omega arith
+
+module _ (l : Level) (s : List ℕ) where
+  package-most : partOf 0x05 0 (packageRows l s) .len ≤ 4
+  unfolding packageRows partOf
+  package-most =
+      rows-most 0x05 4 0 (keySegment l s) (groupSegment l s) (rows-most 0x05 4 0 (firstRows l (keyOf s)) (optional s _ (targetRow l (keyOf s))) (omega arith) (target-most l s _)) (λ p. serial-most (word s (keyEnd l s + 1)))
+
+  check-file-most : partOf 0x05 0 (checkFileRows l s) .len ≤ 4
+  unfolding checkFileRows partOf
+  check-file-most = rows-most 0x05 4 0 (packageRows l s) (checkSegment l s) package-most (λ p. omega arith)
+
+  pub package-serial : Bytes s → serialOf s (packageRows l s) < 4294967296
+  package-serial b = part-lt s (partOf 0x05 0 (packageRows l s) .start) _ b package-most
+
+  pub check-file-serial : Bytes s → serialOf s (checkFileRows l s) < 4294967296
+  check-file-serial b = part-lt s (partOf 0x05 0 (checkFileRows l s) .start) _ b check-file-most

@@ -3,7 +3,7 @@ use mathlib.Core.Path.{_≡_, refl}
 use mathlib.Core.List.{List, [], _∷_, _++_, map}
 use Prim.Native.Nat.{ℕ}
 use lib.Count.{leadingZeros}
-use lib.ListN.{replicate, take, set}
+use lib.ListN.{replicate, take, drop, set}
 use Rattle.lists.specs.Words.{all}
 use Rattle.copying.specs.Words.{words, fromBytesAfter}
 use Rattle.field.specs.Level.{FIRST, levelAt}
@@ -13,7 +13,7 @@ use Rattle.layout.specs.Layout.{packageRows, checkFileRows}
 use Rattle.layout.specs.Tests.{rowTests, tests, after, partOf}
 use Rattle.package.specs.declared.Read.{Read}
 use Rattle.package.specs.declared.Read.the-variants.{Fields, Refused}
-use Rattle.package.specs.Reading.{packageReader, checkFileReader, reading}
+use Rattle.package.specs.Reading.{packageReader, checkFileReader, reading, fieldPart}
 
 -- an element of K with only coordinate 0, before other bytes
 abbrev element : ℕ → List ℕ → List ℕ
@@ -80,6 +80,65 @@ serials =
 pub serial-examples : map (λ f. readCheck (withSerial (f .0))) serials ≡ map (λ f. f .1) serials
 unfolding serials levelAt degree leadingZeros checkFileRows packageRows tests rowTests after partOf words fromBytesAfter within below all
 serial-examples = refl
+
+-- these bytes in the file of key A after field 03, and after field 05
+abbrev afterX : List ℕ → List ℕ
+afterX more = take 19 keyA ++ more ++ drop 19 keyA
+
+abbrev afterSerial : List ℕ → List ℕ
+afterSerial more = take 24 keyA ++ more ++ drop 24 keyA
+
+-- field 04 of key A, with these two bytes for its element
+abbrev target : ℕ → ℕ → List ℕ
+target high low = 0x04 ∷ 0 ∷ 2 ∷ high ∷ low ∷ []
+
+-- files with field 04 and without, and what reading each as a check file answers
+pub targets : List (List ℕ × Read)
+targets =
+    (afterX [], Fields (record { n = 2; m = 1; serial = 7 }))
+    ∷ (afterX (target 0 7), Fields (record { n = 2; m = 1; serial = 7 }))
+    ∷ (afterX (target 1 0), Fields (record { n = 2; m = 1; serial = 7 }))
+    ∷ (afterX (target 7 255), Fields (record { n = 2; m = 1; serial = 7 }))
+    ∷ (afterX (target 8 0), refused 4)
+    ∷ (afterX (target 0 0), refused 14)
+    ∷ (afterX (target 0 7 ++ target 0 7), refused 10)
+    ∷ (afterSerial (target 0 7), refused 10)
+    ∷ (afterX (0x04 ∷ 0 ∷ 0 ∷ []), refused 11)
+    ∷ (afterX (0x04 ∷ 0 ∷ 4 ∷ 0 ∷ 7 ∷ 0 ∷ 7 ∷ []), refused 11)
+    ∷ (take 19 keyA, refused 9)
+    ∷ (take 19 keyA ++ 0x04 ∷ [], refused 9)
+    ∷ (take 19 keyA ++ 0x05 ∷ [], refused 9)
+    ∷ (take 19 keyA ++ take 4 (target 0 7), refused 9)
+    ∷ []
+
+pub target-examples : map (λ f. readCheck (f .0)) targets ≡ map (λ f. f .1) targets
+unfolding targets levelAt degree leadingZeros checkFileRows packageRows tests rowTests after partOf words fromBytesAfter within below all
+target-examples = refl
+
+-- a package with n = 3 and m = 2, all zero but for y, which has these bytes
+abbrev withTarget : List ℕ → List ℕ
+withTarget y =
+    (0x01 ∷ 0 ∷ 2 ∷ 3 ∷ 2 ∷ 0x02 ∷ 0 ∷ 12 ∷ replicate 12 0) ++ (0x03 ∷ 0 ∷ 6 ∷ replicate 6 0) ++ (0x04 ∷ 0 ∷ 4 ∷ y)
+    ++ (0x05 ∷ 0 ∷ 2 ∷ 0 ∷ 7 ∷ 0x06 ∷ 0 ∷ 6 ∷ replicate 6 0) ++ (0x07 ∷ 0 ∷ 48 ∷ replicate 48 0)
+
+-- the elements of y in it, and what reading it answers: 14 where all are zero, after 4
+pub elements : List (List ℕ × Read)
+elements =
+    (0 ∷ 0 ∷ 1 ∷ 0 ∷ [], Fields (record { n = 3; m = 2; serial = 7 }))
+    ∷ (1 ∷ 0 ∷ 0 ∷ 0 ∷ [], Fields (record { n = 3; m = 2; serial = 7 }))
+    ∷ (0 ∷ 0 ∷ 0 ∷ 0 ∷ [], refused 14)
+    ∷ (0 ∷ 0 ∷ 8 ∷ 0 ∷ [], refused 4)
+    ∷ []
+
+pub element-examples : map (λ f. readPackage (withTarget (f .0))) elements ≡ map (λ f. f .1) elements
+unfolding elements levelAt degree leadingZeros packageRows tests rowTests after partOf words fromBytesAfter within below all
+element-examples = refl
+
+-- where field 04 stands, in that package and in the one of key A, which has none
+pub target-parts : fieldPart (packageReader (levelAt FIRST)) (withTarget (0 ∷ 0 ∷ 1 ∷ 0 ∷ [])) 0x04 ∷ fieldPart (packageReader (levelAt FIRST)) (take 56 keyA) 0x04 ∷ []
+    ≡ record { start = 32; len = 4 } ∷ record { start = 0; len = 0 } ∷ []
+unfolding levelAt degree leadingZeros packageRows tests rowTests after partOf words fromBytesAfter within below all
+target-parts = refl
 
 -- its package, and the whole file given to the reader of packages
 pub packages : readPackage (take 56 keyA) ∷ readPackage keyA ∷ [] ≡ Fields (record { n = 2; m = 1; serial = 7 }) ∷ refused 12 ∷ []

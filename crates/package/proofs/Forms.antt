@@ -1,176 +1,32 @@
--- The laws of the three segments, at any position, and of packages and check files.
-use mathlib.Core.Path.{_≡_, refl, sym, ap, ap₂, _∙_, subst}
-use mathlib.Core.Bool.{true, not}
-use mathlib.Core.List.{List, [], _∷_, _++_}
-use Prim.Native.Nat.{ℕ, zero, suc, _+_, _*_, _<_}
-use native.Mathlib.Nat.{add-assoc}
+-- The laws of groups and of the fields of a check, at any position, and of packages and check files.
+use mathlib.Core.Path.{_≡_, refl, sym, ap, _∙_}
+use mathlib.Core.Bool.{not}
+use mathlib.Core.List.{List, [], _∷_, _++_, append-assoc}
+use Prim.Native.Nat.{ℕ, _+_}
 use native.Mathlib.Omega.{arith}
-use borrow.Author.Tests.{lt-leb, le-ltb, ne-eqb, not-false}
+use borrow.Author.Tests.{not-false}
 use lib.ListN.{length, drop}
-use lib.Seq.{getD-append-add}
-use Rattle.lists.specs.Words.{part}
-use Rattle.copying.specs.Words.{Bytes, word, words, wordBytes, fromBytes}
-use Rattle.copying.proofs.Bytes.{words-bytes, bytes-length, words-length, bytes-words, word-bytes}
-use Rattle.refusal.proofs.Answers.{None}
-use Rattle.field.specs.declared.Level.{Level}
+use Rattle.copying.specs.Words.{Bytes, word, words, fromBytes}
+use Rattle.copying.proofs.Bytes.{words-bytes, words-length, bytes-words}
 use Rattle.field.specs.Level.{FIRST, levelAt}
-use Rattle.field.specs.Word.{within}
 use Rattle.key.specs.declared.Key.{Key}
-use Rattle.key.specs.Key.{Sized, sizes}
-use Rattle.key.proofs.Sized.{sized}
-use Rattle.key.proofs.Fine.{within-le, below-lt}
+use Rattle.key.specs.Key.{Sized}
+use Rattle.key.proofs.Fine.{below-lt}
 use Rattle.layout.specs.declared.Row.{Row}
-use Rattle.layout.specs.declared.Kind.{Kind}
-use Rattle.layout.specs.declared.Kind.the-variants.{Elements, Serial, Coordinates}
-use Rattle.layout.specs.Layout.{serialLength, keyRows, groupRows, checkRows, packageRows, checkFileRows}
-use Rattle.layout.specs.Tests.{keyAt, keyOf, valueTests, after}
-use Rattle.layout.proofs.Files.{key-part, package-end}
+use Rattle.layout.specs.declared.Kind.the-variants.{Serial, Coordinates}
+use Rattle.layout.specs.Layout.{serialLength, groupRows, checkRows, packageRows, checkFileRows}
+use Rattle.layout.specs.Tests.{keyAt, keyOf, after}
+use Rattle.layout.proofs.Files.{package-end}
 use Rattle.layout.proofs.Bounds.{bounds}
-use Rattle.package.specs.Written.{joined, contentOf, serialBytes, KeyData, Group, Check, keyFields, groupFields, checkFields, Within, ValidKey, ValidGroup, ValidCheck, packageForm, checkForm, Faithful}
+use Rattle.package.specs.Written.{joined, contentOf, serialBytes, targetFields, KeyData, Group, Check, keyFields, groupFields, checkFields, ValidKey, ValidGroup, ValidCheck, packageForm, checkForm, Faithful}
 use Rattle.package.proofs.Accepted.{serial-most, part-lt, package-whole, package-passes, check-file-whole, check-file-passes}
-use Rattle.package.proofs.Joined.{Fit, Fits, AllBytes, cut, content-bytes, next-len, cut-fits}
+use Rattle.package.proofs.Joined.{Fits, AllBytes, cut, same, content-bytes, next-len, cut-fits}
 use Rattle.package.proofs.Serial.{from-serial, serial-short, serial-bytes, serial-judged, serial-passes, serial-of}
-use Rattle.package.proofs.Segments.{SegmentLaws, OpeningLaws, followed}
+use Rattle.package.proofs.Words.{fit-words, test-coordinates, within-bytes}
+use Rattle.package.proofs.Segments.{Any, SegmentLaws, OpeningLaws, followed}
+use Rattle.package.proofs.Target.{NotTarget, past-target}
+use Rattle.package.proofs.Opening.{keyRowsAt, keyTable, key-laws}
 use Rattle.package.proofs.Faithful.{FormLaws, faithful}
-
--- sizes that are not refused
-none-sizes : (l : Level) (key : Key) → Sized l key → None (sizes l key)
-none-sizes l key s = (le-ltb (key .n) 2 (s .two), (le-ltb (l .most) (key .n) (s .most), (ne-eqb (key .m) 0 (λ e. omega (arith, s .some, e)), (lt-leb (key .n) (key .m) (s .fewer), tt))))
-
--- a content of words, of a kind whose test is that all are within the limit
-module _ (l : Level) (tag k : ℕ) (kind : Kind) where
-  abbrev wordsRow : Row
-  wordsRow = record { tag = tag; len = 2 * k; kind = kind }
-
-  fit-words : (s : List ℕ) → 2 * k < 65536 → Within l k s → ((c : List ℕ) → within l (words c) ≡ true → None (valueTests l kind c)) → Fit l wordsRow tag (wordBytes s)
-  fit-words s short w test = record {
-    tag = refl;
-    len = bytes-length s ∙ ap (λ n. 2 * n) (w .0);
-    short = short;
-    values = test (wordBytes s) (ap (within l) (words-bytes s) ∙ w .1);
-  }
-
--- the test of words, either way
-test-elements : (l : Level) (c : List ℕ) → within l (words c) ≡ true → None (valueTests l Elements c)
-test-elements l c e = (ap not e, tt)
-
-test-coordinates : (l : Level) (c : List ℕ) → within l (words c) ≡ true → None (valueTests l Coordinates c)
-test-coordinates l c e = (ap not e, tt)
-
--- words within the limit are written as bytes
-limit-lt : levelAt FIRST .limit < 65536
-unfolding levelAt
-limit-lt = omega arith
-
-within-bytes : (s : List ℕ) → within (levelAt FIRST) s ≡ true → Bytes (wordBytes s)
-within-bytes s e = word-bytes s (λ i. omega (arith, limit-lt, within-le (levelAt FIRST) s e i))
-
-sizes-bytes : (key : Key) → Sized (levelAt FIRST) key → Bytes (key .n ∷ key .m ∷ [])
-sizes-bytes key s zero = omega (arith, bounds key s .vector)
-sizes-bytes key s (suc zero) = omega (arith, bounds key s .vector, s .fewer)
-sizes-bytes key s (suc (suc i)) = omega arith
-
--- the same content, and the same fields after it
-same : (tag : ℕ) {c d : List ℕ} {fields others : List (ℕ × List ℕ)} → c ≡ d → fields ≡ others → (tag, c) ∷ fields ≡ (tag, d) ∷ others
-same tag e f = ap₂ (λ (c : List ℕ) (rest : List (ℕ × List ℕ)). (tag, c) ∷ rest) e f
-
--- any bytes may follow
-abbrev Any : List ℕ → Type 0
-Any rest = Unit {0}
-
--- the key's fields
-abbrev keyRowsAt : List ℕ → ℕ → List Row
-keyRowsAt s at = keyRows (levelAt FIRST) (keyAt s (at + 3)) s at
-
-abbrev keyTable : KeyData → List Row
-keyTable k = keyRows (levelAt FIRST) (k .sizes) [] 0
-
-unpackKey : List (ℕ × List ℕ) → KeyData
-unpackKey fields = record {
-  sizes = keyAt (contentOf 0x01 fields) 0;
-  h = words (contentOf 0x02 fields);
-  x = words (contentOf 0x03 fields);
-}
-
-key-packed : (k : KeyData) → unpackKey (keyFields k) ≡ k
-unfolding unpackKey contentOf
-key-packed k = rw (words-bytes (k .h), words-bytes (k .x))
-
-key-fits : (k : KeyData) → ValidKey (levelAt FIRST) k → Fits (levelAt FIRST) (keyTable k) (keyFields k)
-key-fits k v =
-    let l = levelAt FIRST in
-    let b = bounds (k .sizes) (v .sized) in (
-      record { tag = refl; len = refl; short = omega arith; values = none-sizes l (k .sizes) (v .sized) },
-      (
-        fit-words l 0x02 _ Elements (k .h) (omega (arith, b .matrix)) (v .h) (test-elements l),
-        (fit-words l 0x03 _ Elements (k .x) (omega (arith, b .vector)) (v .x) (test-elements l), tt),
-      ),
-    )
-
-key-bytes : (k : KeyData) → ValidKey (levelAt FIRST) k → AllBytes (keyFields k)
-key-bytes k v = (
-  omega arith,
-  sizes-bytes (k .sizes) (v .sized),
-  (
-    omega arith,
-    within-bytes (k .h) (v .h .1),
-    (omega arith, within-bytes (k .x) (v .x .1), tt),
-  ),
-)
-
-key-starts : (pre rest : List ℕ) (k : KeyData) → keyAt (pre ++ (joined (keyFields k) ++ rest)) (length pre + 3) ≡ k .sizes
-unfolding joined
-key-starts pre rest k =
-    let s = joined (keyFields k) ++ rest in
-    ap₂ (λ (n m : ℕ). record { n = n; m = m }) (getD-append-add pre s 3 0) (rw add-assoc (getD-append-add pre s 4 0))
-
--- a content of two bytes
-pair : (c : List ℕ) → length c ≡ 2 → keyAt c 0 .n ∷ keyAt c 0 .m ∷ [] ≡ c
-pair [] h = absurd (omega arith)
-pair (a ∷ []) h = absurd (omega arith)
-pair (a ∷ b ∷ []) h = refl
-pair (a ∷ b ∷ d ∷ c) h = absurd (omega arith)
-
-module _ (s : List ℕ) (b : Bytes s) (at : ℕ) where
-  abbrev keyFound : List (ℕ × List ℕ)
-  keyFound = cut s at (keyRowsAt s at)
-
-  abbrev keyData : KeyData
-  keyData = record { sizes = keyAt s (at + 3); h = words (contentOf 0x02 keyFound); x = words (contentOf 0x03 keyFound) }
-
-  key-valid : Fits (levelAt FIRST) (keyRowsAt s at) keyFound → ValidKey (levelAt FIRST) keyData
-  unfolding cut contentOf
-  key-valid w =
-      let f = w .1 in
-      record {
-        sized = subst (Sized (levelAt FIRST)) (key-part s (at + 3)) (sized (levelAt FIRST) (keyAt (part (at + 3) 2 s) 0) (w .0 .values));
-        h = (words-length _ _ (f .0 .len), not-false _ (f .0 .values .0));
-        x = (words-length _ _ (f .1 .0 .len), not-false _ (f .1 .0 .values .0));
-      }
-
-  key-found : Fits (levelAt FIRST) (keyRowsAt s at) keyFound → keyFields keyData ≡ keyFound
-  unfolding cut contentOf
-  key-found w =
-      let c : (tag : ℕ) → List ℕ = λ tag. contentOf tag keyFound in
-      let all : (tag : ℕ) → Bytes (c tag) = λ tag. content-bytes s b tag at (keyRowsAt s at) in
-      let f = w .1 in
-      same 0x01 (ap (λ (key : Key). key .n ∷ key .m ∷ []) (sym (key-part s (at + 3))) ∙ pair (part (at + 3) 2 s) (w .0 .len))
-      (same 0x02 (bytes-words (c 0x02) _ (all 0x02) (f .0 .len))
-      (same 0x03 (bytes-words (c 0x03) _ (all 0x03) (f .1 .0 .len)) refl))
-
-key-laws : OpeningLaws (levelAt FIRST) keyFields (ValidKey (levelAt FIRST)) keyTable keyRowsAt Any (λ k. k .sizes)
-key-laws = record {
-  laws = record {
-    fits = key-fits;
-    bytes = key-bytes;
-    there = λ pre rest m k v. ap (λ key. keyRows (levelAt FIRST) key [] 0) (key-starts pre rest k);
-    read = λ s b at e. let w = cut-fits (levelAt FIRST) s b at (keyRowsAt s at) e in (keyData s b at, key-valid s b at w, key-found s b at w);
-    single = λ x y v w e. sym (key-packed x) ∙ ap unpackKey e ∙ key-packed y;
-  };
-  sized = λ k v. v .sized;
-  starts = λ pre rest k v. key-starts pre rest k;
-  told = λ s b at e. refl;
-}
 
 -- the fields of a group, whose first row its own bytes tell
 abbrev groupTable : Key → Group → List Row
@@ -210,7 +66,7 @@ module _ (key : Key) where
         },
         (
           record { tag = refl; len = v .t .0; short = omega (arith, b .bits); values = (ap not (v .t .1), tt) },
-          (fit-words l 0x07 _ Coordinates (g .a) (omega (arith, b .proof)) (v .a) (test-coordinates l), tt),
+          (fit-words l 0x07 _ Coordinates (g .a) (omega (arith, b .proof)) (v .a) (test-coordinates l _), tt),
         ),
       )
 
@@ -279,12 +135,12 @@ module _ (key : Key) where
   check-fits h c v =
       let l = levelAt FIRST in
       let b = bounds key h in (
-        fit-words l 0x11 _ Coordinates (c .q) (omega (arith, b .elements)) (v .q) (test-coordinates l),
+        fit-words l 0x11 _ Coordinates (c .q) (omega (arith, b .elements)) (v .q) (test-coordinates l _),
         (
-          fit-words l 0x12 _ Coordinates (c .masks) (omega (arith, b .masks)) (v .masks) (test-coordinates l),
+          fit-words l 0x12 _ Coordinates (c .masks) (omega (arith, b .masks)) (v .masks) (test-coordinates l _),
           (
-            fit-words l 0x13 _ Coordinates (c .delta) (omega (arith, b .one)) (v .delta) (test-coordinates l),
-            (fit-words l 0x14 _ Coordinates (c .alpha) (omega (arith, b .values)) (v .alpha) (test-coordinates l), tt),
+            fit-words l 0x13 _ Coordinates (c .delta) (omega (arith, b .one)) (v .delta) (test-coordinates l _),
+            (fit-words l 0x14 _ Coordinates (c .alpha) (omega (arith, b .values)) (v .alpha) (test-coordinates l _), tt),
           ),
         ),
       )
@@ -339,6 +195,11 @@ module _ (key : Key) where
     single = λ x y v w e. sym (check-packed x) ∙ ap unpackCheck e ∙ check-packed y;
   }
 
+-- a group does not begin with the tag of y
+group-next : (g : Group) (rest : List ℕ) → NotTarget (joined (groupFields g) ++ rest)
+unfolding joined
+group-next g rest e = omega (arith, e)
+
 -- a package: the key's fields, then a group
 abbrev packageTable : KeyData × Group → List Row
 packageTable p = keyTable (p .0) ++ groupTable (p .0 .sizes) (p .1)
@@ -348,14 +209,14 @@ packageRowsAt s at = keyRowsAt s at ++ groupRows (levelAt FIRST) (keyAt s (at + 
 
 package-opening : let form = packageForm (levelAt FIRST) in OpeningLaws (levelAt FIRST) (form .fields) (form .Limits) packageTable packageRowsAt Any (form .key)
 package-opening =
-    followed (levelAt FIRST) keyFields (ValidKey (levelAt FIRST)) keyTable keyRowsAt Any (λ k. k .sizes)
-    groupFields (ValidGroup (levelAt FIRST)) groupTable (groupRows (levelAt FIRST)) Any key-laws group-laws (λ key g v rest m. tt) tt
+    followed (levelAt FIRST) keyFields (ValidKey (levelAt FIRST)) keyTable keyRowsAt NotTarget (λ k. k .sizes)
+    groupFields (ValidGroup (levelAt FIRST)) groupTable (groupRows (levelAt FIRST)) Any key-laws group-laws (λ key g v rest m. group-next g rest) tt
 
 package-laws : FormLaws (levelAt FIRST) (packageForm (levelAt FIRST)) packageTable packageRowsAt Any
 unfolding packageRows contentOf
 package-laws = record {
   opening = package-opening;
-  serial = λ p. refl;
+  serial = λ p. past-target 0x05 refl (p .0 .slices .y) (groupFields (p .1));
   last = tt;
   told = λ s. refl;
   whole = package-whole (levelAt FIRST);
@@ -382,7 +243,7 @@ check-file-laws : FormLaws (levelAt FIRST) (checkForm (levelAt FIRST)) checkFile
 unfolding packageRows checkFileRows contentOf
 check-file-laws = record {
   opening = check-file-opening;
-  serial = λ x. refl;
+  serial = λ x. let y = x .0 .0 .slices .y in ap (contentOf 0x05) (append-assoc (targetFields y) (groupFields (x .0 .1)) (checkFields (x .1))) ∙ past-target 0x05 refl y (groupFields (x .0 .1) ++ checkFields (x .1));
   last = tt;
   told = λ s. ap (λ at. packageRows (levelAt FIRST) s ++ checkRows (levelAt FIRST) (keyOf s) s at) (sym (package-end (levelAt FIRST) s));
   whole = check-file-whole (levelAt FIRST);

@@ -39,6 +39,10 @@ unfoldable pub cut : List ℕ → ℕ → List Row → List (ℕ × List ℕ)
 cut s at [] = []
 cut s at (row ∷ rows) = (row .tag, part (at + 3) (row .len) s) ∷ cut s (at + 3 + row .len) rows
 
+-- the same content, and the same fields after it
+pub same : (tag : ℕ) {c d : List ℕ} {fields others : List (ℕ × List ℕ)} → c ≡ d → fields ≡ others → (tag, c) ∷ fields ≡ (tag, d) ∷ others
+same tag e f = ap₂ (λ (c : List ℕ) (rest : List (ℕ × List ℕ)). (tag, c) ∷ rest) e f
+
 -- one table after another
 pub fits-append : (l : Level) (rows others : List Row) (fields more : List (ℕ × List ℕ)) → Fits l rows fields → Fits l others more → Fits l (rows ++ others) (fields ++ more)
 fits-append l [] others [] more v w = w

@@ -1,7 +1,10 @@
 pub mod Accepted
 pub mod Joined
 pub mod Serial
+pub mod Words
 pub mod Segments
+pub mod Target
+pub mod Opening
 pub mod Faithful
 pub mod Forms
 pub mod Examples

@@ -15,6 +15,10 @@ use Rattle.layout.proofs.Rows.{none-append, tests-append}
 use Rattle.package.specs.Written.{joined}
 use Rattle.package.proofs.Joined.{Fits, AllBytes, cut, fits-append, fits-length, cut-append, joined-append, after-joined, all-append}
 
+-- any bytes may follow
+abbrev pub Any : List ℕ → Type 0
+Any rest = Unit {0}
+
 -- data, their fields, when these are within the limits, their rows, the rows that are told by bytes and the position where they
 -- start, and what may follow, where a row depends on that
 module _ (l : Level) {Data : Type 0} (fields : Data → List (ℕ × List ℕ)) (Limits : Data → Type 0) (table : Data → List Row) (rows : List ℕ → ℕ → List Row) (Before : List ℕ → Type 0) where

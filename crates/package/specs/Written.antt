@@ -9,7 +9,8 @@ use Rattle.copying.specs.Words.{Bytes, twoBytes, fourBytes, wordBytes}
 use Rattle.field.specs.declared.Level.{Level}
 use Rattle.field.specs.Word.{within}
 use Rattle.key.specs.declared.Key.{Key}
-use Rattle.key.specs.Key.{Sized, lengths, below}
+use Rattle.key.specs.Key.{KeySlices, Sized, lengths, below}
+use Rattle.layout.specs.Tests.{zeros}
 use Rattle.lists.specs.Words.{part}
 use Rattle.refusal.specs.Answer.{firstOf}
 use Rattle.refusal.specs.declared.Answer.the-variants.{Done}
@@ -30,11 +31,14 @@ contentOf tag ((g, c) ∷ fields) = cond (eqb g tag) c (contentOf tag fields)
 abbrev pub serialBytes : ℕ → List ℕ
 serialBytes x = cond (ltb x 65536) (twoBytes x) (fourBytes x)
 
--- what the key's fields say: the lists of elements are words
+-- field 04, y: "absent means all zero, and the writer leaves it out then"
+abbrev pub targetFields : List ℕ → List (ℕ × List ℕ)
+targetFields y = cond (zeros y) [] ((0x04, wordBytes y) ∷ [])
+
+-- what the key's fields say: the slices are words
 pub record KeyData : Type 0 where
   pub sizes : Key
-  pub h : List ℕ
-  pub x : List ℕ
+  pub slices : KeySlices
 
 -- what a group of fields says: t is bytes
 pub record Group : Type 0 where
@@ -52,9 +56,9 @@ pub record Check : Type 0 where
 abbrev pub keyFields : KeyData → List (ℕ × List ℕ)
 keyFields k =
     (0x01, k .sizes .n ∷ k .sizes .m ∷ [])
-    ∷ (0x02, wordBytes (k .h))
-    ∷ (0x03, wordBytes (k .x))
-    ∷ []
+    ∷ (0x02, wordBytes (k .slices .h))
+    ∷ (0x03, wordBytes (k .slices .x))
+    ∷ targetFields (k .slices .y)
 
 abbrev pub groupFields : Group → List (ℕ × List ℕ)
 groupFields g =
@@ -78,8 +82,9 @@ Within l n s = (length s ≡ n) × (within l s ≡ true)
 -- fields within the limits: the sizes, the lengths and the values that the specification states
 pub record ValidKey (l : Level) (k : KeyData) : Type 0 where
   pub sized : Sized l (k .sizes)
-  pub h : Within l (lengths l (k .sizes) .matrix) (k .h)
-  pub x : Within l (lengths l (k .sizes) .vector) (k .x)
+  pub h : Within l (lengths l (k .sizes) .matrix) (k .slices .h)
+  pub x : Within l (lengths l (k .sizes) .vector) (k .slices .x)
+  pub y : Within l (lengths l (k .sizes) .target) (k .slices .y)
 
 pub record ValidGroup (l : Level) (key : Key) (g : Group) : Type 0 where
   pub serial : g .serial < 4294967296

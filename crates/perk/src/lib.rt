@@ -5,6 +5,7 @@ ghost use Rattle.refusal.specs.Answer.{numbered};
 ghost use Rattle.refusal.specs.Verdict.{verdictNumber};
 ghost use Rattle.arithmetic.specs.Entry.{sumOutcome, productOutcome};
 ghost use Rattle.field.specs.Level.{FIRST, levelAt};
+ghost use Rattle.key.specs.Key.{keySlices};
 ghost use Rattle.constraints.specs.Entry.{constraintsOutcome, valuesOutcome};
 ghost use Rattle.constraints.specs.Truth.{Truth};
 ghost use Rattle.prover.specs.Entry.{proveOutcome};
@@ -39,17 +40,18 @@ pub extern "C" fn perk_constraints(
     m: usize,
     h: &[u16],
     x: &[u16],
+    y: &[u16],
     positions: &[u8],
     u: &[u8],
     v: &[u16],
     t: &mut [u8],
     polynomials: &mut [u16],
 ) -> u32
-    ensures outcome { λ r. ⌜ (r, (now (t .exit), now (polynomials .exit))) ≡ numbered (constraintsOutcome (levelAt FIRST) (record { n = n; m = m }) (now (h .entry)) (now (x .entry)) (now (positions .entry)) (now (u .entry)) (now (v .entry)) (now (t .entry)) (now (polynomials .entry))) ⌝ }
-    ensures truth { λ r. ⌜ (r ≡ 0 → Truth (levelAt FIRST) n m (now (h .entry)) (now (x .entry)) (now (positions .entry)) (now (u .entry)) (now (v .entry)) (now (t .exit)) (now (polynomials .exit))) ⌝ }
+    ensures outcome { λ r. ⌜ (r, (now (t .exit), now (polynomials .exit))) ≡ numbered (constraintsOutcome (levelAt FIRST) (record { n = n; m = m }) (keySlices (now (h .entry)) (now (x .entry)) (now (y .entry))) (now (positions .entry)) (now (u .entry)) (now (v .entry)) (now (t .entry)) (now (polynomials .entry))) ⌝ }
+    ensures truth { λ r. ⌜ (r ≡ 0 → Truth (levelAt FIRST) n m (keySlices (now (h .entry)) (now (x .entry)) (now (y .entry))) (now (positions .entry)) (now (u .entry)) (now (v .entry)) (now (t .exit)) (now (polynomials .exit))) ⌝ }
 {
     let key = Key { n, m };
-    refusal::number(constraints::constraints(key, h, x, positions, u, v, t, polynomials))
+    refusal::number(constraints::constraints(key, h, x, y, positions, u, v, t, polynomials))
 }
 
 // All values.
@@ -59,15 +61,16 @@ pub extern "C" fn perk_values(
     m: usize,
     h: &[u16],
     x: &[u16],
+    y: &[u16],
     t: &[u8],
     q: &[u16],
     delta: &[u16],
     values: &mut [u16],
 ) -> u32
-    ensures { λ r. ⌜ (r, now (values .exit)) ≡ numbered (valuesOutcome (levelAt FIRST) (record { n = n; m = m }) (now (h .entry)) (now (x .entry)) (now (t .entry)) (now (q .entry)) (now (delta .entry)) (now (values .entry))) ⌝ }
+    ensures { λ r. ⌜ (r, now (values .exit)) ≡ numbered (valuesOutcome (levelAt FIRST) (record { n = n; m = m }) (keySlices (now (h .entry)) (now (x .entry)) (now (y .entry))) (now (t .entry)) (now (q .entry)) (now (delta .entry)) (now (values .entry))) ⌝ }
 {
     let key = Key { n, m };
-    refusal::number(constraints::values(key, h, x, t, q, delta, values))
+    refusal::number(constraints::values(key, h, x, y, t, q, delta, values))
 }
 
 // The masked witness and the proof.
@@ -77,6 +80,7 @@ pub extern "C" fn perk_prove(
     m: usize,
     h: &[u16],
     x: &[u16],
+    y: &[u16],
     positions: &[u8],
     u: &[u8],
     v: &[u16],
@@ -86,11 +90,11 @@ pub extern "C" fn perk_prove(
     t: &mut [u8],
     a: &mut [u16],
 ) -> u32
-    ensures outcome { λ o. ⌜ (o, (now (t .exit), now (a .exit))) ≡ numbered (proveOutcome (levelAt FIRST) (record { n = n; m = m }) (now (h .entry)) (now (x .entry)) (now (positions .entry)) (now (u .entry)) (now (v .entry)) (now (r .entry)) (now (s .entry)) (now (alpha .entry)) (now (t .entry)) (now (a .entry))) ⌝ }
-    ensures solved { λ o. ⌜ Solved (levelAt FIRST) (record { n = n; m = m }) (now (h .entry)) (now (x .entry)) (now (positions .entry)) (now (u .entry)) (now (v .entry)) (now (r .entry)) (now (s .entry)) (now (alpha .entry)) (now (t .entry)) (now (a .entry)) (o ≡ 0) (o ≡ 8) ⌝ }
+    ensures outcome { λ o. ⌜ (o, (now (t .exit), now (a .exit))) ≡ numbered (proveOutcome (levelAt FIRST) (record { n = n; m = m }) (keySlices (now (h .entry)) (now (x .entry)) (now (y .entry))) (now (positions .entry)) (now (u .entry)) (now (v .entry)) (now (r .entry)) (now (s .entry)) (now (alpha .entry)) (now (t .entry)) (now (a .entry))) ⌝ }
+    ensures solved { λ o. ⌜ Solved (levelAt FIRST) (record { n = n; m = m }) (keySlices (now (h .entry)) (now (x .entry)) (now (y .entry))) (now (positions .entry)) (now (u .entry)) (now (v .entry)) (now (r .entry)) (now (s .entry)) (now (alpha .entry)) (now (t .entry)) (now (a .entry)) (o ≡ 0) (o ≡ 8) ⌝ }
 {
     let key = Key { n, m };
-    refusal::number(prover::prove(key, h, x, positions, u, v, r, s, alpha, t, a))
+    refusal::number(prover::prove(key, h, x, y, positions, u, v, r, s, alpha, t, a))
 }
 
 // Whether the proof is accepted.
@@ -100,6 +104,7 @@ pub extern "C" fn perk_verify(
     m: usize,
     h: &[u16],
     x: &[u16],
+    y: &[u16],
     t: &[u8],
     q: &[u16],
     delta: &[u16],
@@ -107,11 +112,11 @@ pub extern "C" fn perk_verify(
     alpha: &[u16],
     a: &[u16],
 ) -> u32
-    ensures outcome { λ o. ⌜ o ≡ verdictNumber (verifyOutcome (levelAt FIRST) (record { n = n; m = m }) (now (h .entry)) (now (x .entry)) (now (t .entry)) (now (q .entry)) (now (delta .entry)) (now (masks .entry)) (now (alpha .entry)) (now (a .entry))) ⌝ }
-    ensures judges { λ o. ⌜ Judges (levelAt FIRST) (record { n = n; m = m }) (now (h .entry)) (now (x .entry)) (now (t .entry)) (now (q .entry)) (now (delta .entry)) (now (masks .entry)) (now (alpha .entry)) (now (a .entry)) (o ≡ 0) (o ≡ 255) ⌝ }
+    ensures outcome { λ o. ⌜ o ≡ verdictNumber (verifyOutcome (levelAt FIRST) (record { n = n; m = m }) (keySlices (now (h .entry)) (now (x .entry)) (now (y .entry))) (now (t .entry)) (now (q .entry)) (now (delta .entry)) (now (masks .entry)) (now (alpha .entry)) (now (a .entry))) ⌝ }
+    ensures judges { λ o. ⌜ Judges (levelAt FIRST) (record { n = n; m = m }) (keySlices (now (h .entry)) (now (x .entry)) (now (y .entry))) (now (t .entry)) (now (q .entry)) (now (delta .entry)) (now (masks .entry)) (now (alpha .entry)) (now (a .entry)) (o ≡ 0) (o ≡ 255) ⌝ }
 {
     let key = Key { n, m };
-    refusal::verdict_number(verifier::verify(key, h, x, t, q, delta, masks, alpha, a))
+    refusal::verdict_number(verifier::verify(key, h, x, y, t, q, delta, masks, alpha, a))
 }
 
 // The number of a reader's answer; n, m and the serial are written where it is no refusal.

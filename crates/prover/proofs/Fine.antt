@@ -13,13 +13,13 @@ use Rattle.field.specs.declared.Level.{Level}
 use Rattle.field.specs.Level.{FIRST, levelAt}
 use Rattle.field.proofs.Fields.{first-most, first-narrow}
 use Rattle.row.specs.Elements.{Words, Bits, Fits}
-use Rattle.row.specs.Lent.{LentKey}
+use Rattle.row.specs.Lent.{LentKey, LentTarget}
 use Rattle.key.specs.declared.Key.{Key}
 use Rattle.key.specs.declared.Lengths.{Lengths}
-use Rattle.key.specs.Key.{degree, lengths, Sized, below, withins}
+use Rattle.key.specs.Key.{degree, KeySlices, lengths, Sized, keyWithin, below, withins}
 use Rattle.key.proofs.Fine.{below-lt, each-within}
 use Rattle.key.proofs.Checked.{checked}
-use Rattle.constraints.proofs.Fine.{words-lt, lent-key}
+use Rattle.constraints.proofs.Fine.{words-lt, lent-key, lent-target}
 use Rattle.prover.specs.Entry.{proveLent, proveRows}
 
 module _ (number : ℕ) (key : Key) where
@@ -29,9 +29,10 @@ module _ (number : ℕ) (key : Key) where
   abbrev len : Lengths
   len = lengths l key
 
-  pub record ProveFine (h x positions u v r s α t a : List ℕ) : Type 0 where
+  pub record ProveFine (lent : KeySlices) (positions u v r s α t a : List ℕ) : Type 0 where
     pub is-sized : Sized l key
-    pub is-key : LentKey l (key .n) (key .m) h x
+    pub is-key : LentKey l (key .n) (key .m) (lent .h) (lent .x)
+    pub is-target : LentTarget l (key .m) (lent .y)
     pub positions-length : length positions ≡ len .positions
     pub u-length : length u ≡ len .bits
     pub v-length : length v ≡ len .elements
@@ -47,22 +48,23 @@ module _ (number : ℕ) (key : Key) where
     pub α-words : Words l α
     pub positions-lt : (i : ℕ) → getD positions i 0 < 2 ^ degree (key .n)
 
-  pub prove-fine : (h x positions u v r s α t a : List ℕ) → firstOf (proveRows l key h x positions u v r s α t a) ≡ Done → ProveFine h x positions u v r s α t a
-  prove-fine h x positions u v r s α t a e =
-      let c = checked l key (long (proveLent len h x positions u v r s α t a)) (withins l (h ∷ x ∷ [])) (below 1 u) (withins l (v ∷ r ∷ s ∷ α ∷ [])) (below (degree (key .n)) positions) e in
-      let b = each-long (proveLent len h x positions u v r s α t a) (c .slices-fine) in
+  pub prove-fine : (lent : KeySlices) (positions u v r s α t a : List ℕ) → firstOf (proveRows l key lent positions u v r s α t a) ≡ Done → ProveFine lent positions u v r s α t a
+  prove-fine lent positions u v r s α t a e =
+      let c = checked l key (long (proveLent len lent positions u v r s α t a)) (keyWithin l lent) (below 1 u) (withins l (v ∷ r ∷ s ∷ α ∷ [])) (below (degree (key .n)) positions) e in
+      let b = each-long (proveLent len lent positions u v r s α t a) (c .slices-fine) in
       let f = each-within l (v ∷ r ∷ s ∷ α ∷ []) (c .coordinates-fine) in
       record {
         is-sized = c .is-sized;
-        is-key = lent-key number key h x (b .0) (b .1 .0) (c .elements-fine);
-        positions-length = b .1 .1 .0;
-        u-length = b .1 .1 .1 .0;
-        v-length = b .1 .1 .1 .1 .0;
-        r-length = b .1 .1 .1 .1 .1 .0;
-        s-length = b .1 .1 .1 .1 .1 .1 .0;
-        α-length = b .1 .1 .1 .1 .1 .1 .1 .0;
-        t-length = b .1 .1 .1 .1 .1 .1 .1 .1 .0;
-        a-length = b .1 .1 .1 .1 .1 .1 .1 .1 .1 .0;
+        is-key = lent-key number key lent (b .0) (b .1 .0) (c .elements-fine);
+        is-target = lent-target number key lent (b .1 .1 .0) (c .elements-fine);
+        positions-length = b .1 .1 .1 .0;
+        u-length = b .1 .1 .1 .1 .0;
+        v-length = b .1 .1 .1 .1 .1 .0;
+        r-length = b .1 .1 .1 .1 .1 .1 .0;
+        s-length = b .1 .1 .1 .1 .1 .1 .1 .0;
+        α-length = b .1 .1 .1 .1 .1 .1 .1 .1 .0;
+        t-length = b .1 .1 .1 .1 .1 .1 .1 .1 .1 .0;
+        a-length = b .1 .1 .1 .1 .1 .1 .1 .1 .1 .1 .0;
         u-bits = below-lt 1 u (c .bits-fine);
         v-words = words-lt number key v (f .0);
         r-words = words-lt number key r (f .1 .0);

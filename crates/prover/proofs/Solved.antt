@@ -15,6 +15,7 @@ use Rattle.field.specs.declared.Level.{Level}
 use Rattle.field.specs.Level.{levelAt}
 use Rattle.field.proofs.Fields.{bounded}
 use Rattle.key.specs.declared.Key.{Key}
+use Rattle.key.specs.Key.{KeySlices}
 use Rattle.constraints.specs.Entry.{system}
 use Rattle.constraints.specs.Slices.{witnessOf}
 use Rattle.constraints.proofs.Truth.{tops-solve}
@@ -58,36 +59,36 @@ module _ (rows : List (Bool × ℕ)) (b : Bool) (k : ℕ) where
       go Done h = (h, last b (sym (after-done rows ((b, k) ∷ []) h) ∙ e))
       go (Refused q) h = absurd (below k rows low (after-refused rows ((b, k) ∷ []) refl h ∙ e))
 
-module _ (number : ℕ) (key : Key) (h x positions u v r s α t a : List ℕ) where
+module _ (number : ℕ) (key : Key) (lent : KeySlices) (positions u v r s α t a : List ℕ) where
   abbrev l : Level
   l = levelAt number
 
   abbrev rows : List (Bool × ℕ)
-  rows = proveRows l key h x positions u v r s α t a
+  rows = proveRows l key lent positions u v r s α t a
 
   abbrev zero-tops : Bool
-  zero-tops = topsZero l (system l key h x) (witnessOf (key .n) positions) v
+  zero-tops = topsZero l (system l key lent) (witnessOf (key .n) positions) v
 
-  pub solves : firstOf (proveRows (levelAt number) key h x positions u v r s α t a) ≡ Done → (topsZero (levelAt number) (system (levelAt number) key h x) (witnessOf (key .n) positions) v ≡ true) ↔ SolvesKey (levelAt number) key h x positions
+  pub solves : firstOf (proveRows (levelAt number) key lent positions u v r s α t a) ≡ Done → (topsZero (levelAt number) (system (levelAt number) key lent) (witnessOf (key .n) positions) v ≡ true) ↔ SolvesKey (levelAt number) key lent positions
   solves e =
-      let f = prove-fine number key h x positions u v r s α t a e in
+      let f = prove-fine number key lent positions u v r s α t a e in
       let b = bounded number in
-      let q = tops-solve l (b .width) (b .coordinates) (key .n) (key .m) h x (omega (arith, b .most, f .is-sized .most)) positions (λ i p. f .positions-lt i) v in
-      (λ z. q .0 (tops-true l (system l key h x) (witnessOf (key .n) positions) v .0 z), λ z. tops-true l (system l key h x) (witnessOf (key .n) positions) v .1 (q .1 z))
+      let q = tops-solve l (b .width) (b .coordinates) (key .n) (key .m) lent (omega (arith, b .most, f .is-sized .most)) positions (λ i p. f .positions-lt i) v in
+      (λ z. q .0 (tops-true l (system l key lent) (witnessOf (key .n) positions) v .0 z), λ z. tops-true l (system l key lent) (witnessOf (key .n) positions) v .1 (q .1 z))
 
-  pub solved : {o : Answer} → o ≡ firstOf (proveRows (levelAt number) key h x positions u v r s α t a ++ topsRow (levelAt number) key h x positions v) → Solved (levelAt number) key h x positions u v r s α t a (o ≡ Done) (o ≡ refusal 8)
+  pub solved : {o : Answer} → o ≡ firstOf (proveRows (levelAt number) key lent positions u v r s α t a ++ topsRow (levelAt number) key lent positions v) → Solved (levelAt number) key lent positions u v r s α t a (o ≡ Done) (o ≡ refusal 8)
   solved {o} e = record {
     done = (
       λ d. let b = done-both rows (not zero-tops) 8 (sym e ∙ d) in (b .0, solves (b .0) .0 (not-false zero-tops (b .1))),
-      λ p. e ∙ after-done rows (topsRow l key h x positions v) (p .0) ∙ pass 8 [] (ap not (solves (p .0) .1 (p .1))),
+      λ p. e ∙ after-done rows (topsRow l key lent positions v) (p .0) ∙ pass 8 [] (ap not (solves (p .0) .1 (p .1))),
     );
     eight = (
       λ d. let b = last-applies rows (not zero-tops) 8 low (sym e ∙ d) in (b .0, λ z. false≢true (ap not (sym (solves (b .0) .1 z)) ∙ b .1)),
-      λ p. e ∙ after-done rows (topsRow l key h x positions v) (p .0) ∙ stop 8 [] (never zero-tops (λ z. p .1 (solves (p .0) .0 z))),
+      λ p. e ∙ after-done rows (topsRow l key lent positions v) (p .0) ∙ stop 8 [] (never zero-tops (λ z. p .1 (solves (p .0) .0 z))),
     );
   }
     where
-      low : Below 8 (proveRows (levelAt number) key h x positions u v r s α t a)
+      low : Below 8 (proveRows (levelAt number) key lent positions u v r s α t a)
       low = (omega arith, (omega arith, (omega arith, (omega arith, (omega arith, (omega arith, (omega arith, (omega arith, (omega arith, tt)))))))))
 
       never : (b : Bool) → (b ≡ true → ⊥) → not b ≡ true

@@ -14,7 +14,7 @@ use Rattle.field.specs.Word.{words, isZero}
 use Rattle.row.specs.Elements.{el}
 use Rattle.row.specs.Polynomial.{column, check}
 use Rattle.row.specs.Lent.{smallOf, entryOf, digitOf, elementOf}
-use Rattle.key.specs.Key.{degree}
+use Rattle.key.specs.Key.{degree, KeySlices}
 use Rattle.constraints.specs.Graded.{sigma, Polynomial, coefficient, polynomials}
 use Rattle.constraints.specs.System.{System, polynomial}
 use Rattle.constraints.specs.Slices.{elementAt, elements, systemOf, witnessOf}
@@ -41,33 +41,33 @@ parts P n m h l j a = pick (decLt j n)
     pick (yes b) = h j b
     pick (no b) = subst P (back (omega arith)) (l (j - n) (omega arith))
 
-module _ (l : Level) (n m : ℕ) (h x positions v : List ℕ) where
+module _ (l : Level) (n m : ℕ) (lent : KeySlices) (positions v : List ℕ) where
   abbrev d : ℕ
   d = degree n
 
   abbrev S : System (K l)
-  S = systemOf l n m h x
+  S = systemOf l n m lent
 
   abbrev p : ℕ → Polynomial (K l) (degree n)
   p = polynomial S (witnessOf n positions) (elements l (degree n) v)
 
   -- the test of all tops
   pub tops-same : (tops : List ℕ)
-      → ((j : ℕ) → j < n → el l tops j ≡ column (K l) n (degree n) (entryOf l n h) (smallOf l x) (digitOf (degree n) positions) (elementOf l (degree n) v) j (degree n))
-      → ((e : ℕ) → e < m → el l tops (n + e) ≡ check (K l) n (degree n) (entryOf l n h) (smallOf l x) (digitOf (degree n) positions) (elementOf l (degree n) v) e (degree n))
-      → every (n + m) (λ j. isZero l (el l tops j)) ≡ topsZero l (systemOf l n m h x) (witnessOf n positions) v
+      → ((j : ℕ) → j < n → el l tops j ≡ column (K l) n (degree n) (entryOf l n (lent .h)) (smallOf l (lent .x)) (smallOf l (lent .y)) (digitOf (degree n) positions) (elementOf l (degree n) v) j (degree n))
+      → ((e : ℕ) → e < m → el l tops (n + e) ≡ check (K l) n (degree n) (entryOf l n (lent .h)) (smallOf l (lent .x)) (smallOf l (lent .y)) (digitOf (degree n) positions) (elementOf l (degree n) v) e (degree n))
+      → every (n + m) (λ j. isZero l (el l tops j)) ≡ topsZero l (systemOf l n m lent) (witnessOf n positions) v
   unfolding topsZero
-  tops-same tops a b = every-cong (n + m) _ _ (parts (λ j. isZero l (el l tops j) ≡ isZero l (coefficient (K l) (suc d) (p j) d)) n m (λ j c. ap (isZero l) (a j c ∙ column-written l n m h x positions v j d c)) (λ e c. ap (isZero l) (b e c ∙ check-written l n m h x positions v e d)))
+  tops-same tops a b = every-cong (n + m) _ _ (parts (λ j. isZero l (el l tops j) ≡ isZero l (coefficient (K l) (suc d) (p j) d)) n m (λ j c. ap (isZero l) (a j c ∙ column-written l n m lent positions v j d c)) (λ e c. ap (isZero l) (b e c ∙ check-written l n m lent positions v e d)))
 
   -- the coefficients of f, and of the proof
   coefficient-f : (α : ℕ → K l .Carrier) (k : ℕ) → coefficient (K l) (suc d) (f S (witnessOf n positions) (elements l d v) α) k ≡ sigma (K l) (n + m) (λ j. K l .mul (α j) (coefficient (K l) (suc d) (p j) k))
   unfolding f weighted
   coefficient-f α k = coefficient-total (K l) d (n + m) (λ j. polynomials (K l) .scaled d (α j) (p j)) k ∙ ap (sigma (K l) (n + m)) (λ t j. coefficient-scale (K l) (suc d) (α j) (p j) k t)
 
-  pub proof-same : (r s α : List ℕ) → concat (degree n) (λ k. words l (K l .add (weightedAt l n m (degree n) h x positions v α k) (mask (K l) (degree n - 1) (el l r) (el l s) k))) ≡ proofWords l (systemOf l n m h x) (witnessOf n positions) v r s α
+  pub proof-same : (r s α : List ℕ) → concat (degree n) (λ k. words l (K l .add (weightedAt l n m (degree n) (lent .h) (lent .x) (lent .y) positions v α k) (mask (K l) (degree n - 1) (el l r) (el l s) k))) ≡ proofWords l (systemOf l n m lent) (witnessOf n positions) v r s α
   unfolding proofWords proof
   proof-same r s α = concat-cong d _ _ (λ k b. ap (words l) (ap₂ (K l .add) (weighed k) (λ t. mask (K l) (d - 1) (el-element l r t) (el-element l s t) k) ∙ sym (coefficient-vector (K l) d _ k b)))
     where
-      weighed : (k : ℕ) → weightedAt l n m d h x positions v α k ≡ coefficient (K l) (suc d) (f S (witnessOf n positions) (elements l d v) (elementAt l α)) k
-      weighed k = weighted-all (K l) n m (el l α) _ _ (λ j. coefficient (K l) (suc d) (p j) k) (λ j a. column-written l n m h x positions v j k a) (λ e a. check-written l n m h x positions v e k)
+      weighed : (k : ℕ) → weightedAt l n m d (lent .h) (lent .x) (lent .y) positions v α k ≡ coefficient (K l) (suc d) (f S (witnessOf n positions) (elements l d v) (elementAt l α)) k
+      weighed k = weighted-all (K l) n m (el l α) _ _ (λ j. coefficient (K l) (suc d) (p j) k) (λ j a. column-written l n m lent positions v j k a) (λ e a. check-written l n m lent positions v e k)
           ∙ ap (λ (a : ℕ → K l .Carrier). sigma (K l) (n + m) (λ j. K l .mul (a j) (coefficient (K l) (suc d) (p j) k))) (el-element l α) ∙ sym (coefficient-f (elementAt l α) k)

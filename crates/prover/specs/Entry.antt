@@ -8,17 +8,16 @@ use Rattle.refusal.specs.declared.Answer.{Answer}
 use Rattle.field.specs.declared.Level.{Level}
 use Rattle.key.specs.declared.Key.{Key}
 use Rattle.key.specs.declared.Lengths.{Lengths}
-use Rattle.key.specs.Key.{degree, lengths, sizes, below, withins, checks}
+use Rattle.key.specs.Key.{degree, KeySlices, lengths, sizes, keyLent, keyWithin, below, withins, checks}
 use Rattle.constraints.specs.Entry.{system}
 use Rattle.constraints.specs.Slices.{maskedBytes, witnessOf}
 use Rattle.checkzero.specs.Slices.{topsZero, proofWords}
 
 -- "prove (takes these with r, s and α; writes t and a)", these being "the key, positions, u and v"
-abbrev pub proveLent : Lengths → (h x positions u v r s α t a : List ℕ) → List (List ℕ × ℕ)
-proveLent len h x positions u v r s α t a =
-    (h, len .matrix)
-    ∷ (x, len .vector)
-    ∷ (positions, len .positions)
+abbrev pub proveLent : Lengths → KeySlices → (positions u v r s α t a : List ℕ) → List (List ℕ × ℕ)
+proveLent len lent positions u v r s α t a =
+    keyLent len lent
+    ++ ((positions, len .positions)
     ∷ (u, len .bits)
     ∷ (v, len .elements)
     ∷ (r, len .masks)
@@ -26,22 +25,22 @@ proveLent len h x positions u v r s α t a =
     ∷ (α, len .values)
     ∷ (t, len .bits)
     ∷ (a, len .proof)
-    ∷ []
+    ∷ [])
 
 module _ (l : Level) (key : Key) where
   -- refusals 1 to 7, in order
-  abbrev pub proveRows : (h x positions u v r s α t a : List ℕ) → List (Bool × ℕ)
-  proveRows h x positions u v r s α t a =
-      sizes l key ++ checks (long (proveLent (lengths l key) h x positions u v r s α t a)) (withins l (h ∷ x ∷ [])) (below 1 u) (withins l (v ∷ r ∷ s ∷ α ∷ [])) (below (degree (key .n)) positions)
+  abbrev pub proveRows : KeySlices → (positions u v r s α t a : List ℕ) → List (Bool × ℕ)
+  proveRows lent positions u v r s α t a =
+      sizes l key ++ checks (long (proveLent (lengths l key) lent positions u v r s α t a)) (keyWithin l lent) (below 1 u) (withins l (v ∷ r ∷ s ∷ α ∷ [])) (below (degree (key .n)) positions)
 
   -- "prove, before writing": 8 "some top coefficient of the n + m polynomials isn't zero"
-  abbrev pub topsRow : (h x positions v : List ℕ) → List (Bool × ℕ)
-  topsRow h x positions v = (not (topsZero l (system l key h x) (witnessOf (key .n) positions) v), 8) ∷ []
+  abbrev pub topsRow : KeySlices → (positions v : List ℕ) → List (Bool × ℕ)
+  topsRow lent positions v = (not (topsZero l (system l key lent) (witnessOf (key .n) positions) v), 8) ∷ []
 
   -- t and a, as they are left
-  abbrev pub proveResult : (h x positions u v r s α : List ℕ) → List ℕ × List ℕ
-  proveResult h x positions u v r s α =
-      (maskedBytes (system l key h x) (witnessOf (key .n) positions) u, proofWords l (system l key h x) (witnessOf (key .n) positions) v r s α)
+  abbrev pub proveResult : KeySlices → (positions u v r s α : List ℕ) → List ℕ × List ℕ
+  proveResult lent positions u v r s α =
+      (maskedBytes (system l key lent) (witnessOf (key .n) positions) u, proofWords l (system l key lent) (witnessOf (key .n) positions) v r s α)
 
-  unfoldable pub proveOutcome : (h x positions u v r s α t a : List ℕ) → Answer × (List ℕ × List ℕ)
-  proveOutcome h x positions u v r s α t a = decided (proveRows h x positions u v r s α t a ++ topsRow h x positions v) (proveResult h x positions u v r s α) (t, a)
+  unfoldable pub proveOutcome : KeySlices → (positions u v r s α t a : List ℕ) → Answer × (List ℕ × List ℕ)
+  proveOutcome lent positions u v r s α t a = decided (proveRows lent positions u v r s α t a ++ topsRow lent positions v) (proveResult lent positions u v r s α) (t, a)

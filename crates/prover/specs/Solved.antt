@@ -7,16 +7,17 @@ use Rattle.refusal.specs.Answer.{firstOf}
 use Rattle.refusal.specs.declared.Answer.the-variants.{Done}
 use Rattle.field.specs.declared.Level.{Level}
 use Rattle.key.specs.declared.Key.{Key}
+use Rattle.key.specs.Key.{KeySlices}
 use Rattle.constraints.specs.Order.{Order, Solves}
 use Rattle.constraints.specs.Slices.{keyOf, positionAt}
 use Rattle.prover.specs.Entry.{proveRows}
 
--- the positions solve the key: they "are the numbers 0 to n - 1, each once, and H times the vector x in that order is zero"
-abbrev pub SolvesKey : (l : Level) (key : Key) (h x positions : List ℕ) → Type 0
-SolvesKey l key h x positions = Order (key .n) (positionAt positions) × Solves (keyOf l (key .n) (key .m) h x) (positionAt positions)
+-- the positions solve the key: they "are the numbers 0 to n - 1, each once, and H times the vector x in that order is" y
+abbrev pub SolvesKey : (l : Level) (key : Key) (lent : KeySlices) (positions : List ℕ) → Type 0
+SolvesKey l key lent positions = Order (key .n) (positionAt positions) × Solves (keyOf l (key .n) (key .m) lent) (positionAt positions)
 
 -- past refusals 1 to 7 prove is done exactly when they do, and answers 8 exactly when they do not. Each function says how its answer tells
 -- the one and the other.
-pub record Solved (l : Level) (key : Key) (h x positions u v r s α t a : List ℕ) (IsDone IsEight : Type 0) : Type 0 where
-  pub done : IsDone ↔ ((firstOf (proveRows l key h x positions u v r s α t a) ≡ Done) × SolvesKey l key h x positions)
-  pub eight : IsEight ↔ ((firstOf (proveRows l key h x positions u v r s α t a) ≡ Done) × (SolvesKey l key h x positions → ⊥))
+pub record Solved (l : Level) (key : Key) (lent : KeySlices) (positions u v r s α t a : List ℕ) (IsDone IsEight : Type 0) : Type 0 where
+  pub done : IsDone ↔ ((firstOf (proveRows l key lent positions u v r s α t a) ≡ Done) × SolvesKey l key lent positions)
+  pub eight : IsEight ↔ ((firstOf (proveRows l key lent positions u v r s α t a) ≡ Done) × (SolvesKey l key lent positions → ⊥))

@@ -8,8 +8,8 @@ ghost use Rattle.lists.specs.Lent.{long};
 ghost use Rattle.refusal.specs.Answer.{refusal, firstOf, decided};
 ghost use Rattle.refusal.specs.declared.Answer.the-variants.{Done};
 ghost use Rattle.field.specs.Level.{FIRST, levelAt};
-ghost use Rattle.row.specs.Lent.{LentKey};
-ghost use Rattle.key.specs.Key.{Sized, lengths};
+ghost use Rattle.row.specs.Lent.{LentKey, LentTarget};
+ghost use Rattle.key.specs.Key.{Sized, keySlices, lengths};
 ghost use Rattle.constraints.specs.Entry.{system};
 ghost use Rattle.constraints.specs.Slices.{witnessOf};
 ghost use Rattle.checkzero.specs.Slices.{topsZero};
@@ -30,6 +30,7 @@ fn lengths(
     key: Key,
     h: &[u16],
     x: &[u16],
+    y: &[u16],
     positions: &[u8],
     u: &[u8],
     v: &[u16],
@@ -40,7 +41,7 @@ fn lengths(
     a: &[u16],
 ) -> usize
     requires { ⌜ Sized (levelAt FIRST) key ⌝ }
-    ensures { λ o. ⌜ eqb o 0 ≡ long (proveLent (lengths (levelAt FIRST) key) (now (h .entry)) (now (x .entry)) (now (positions .entry)) (now (u .entry)) (now (v .entry)) (now (r .entry)) (now (s .entry)) (now (alpha .entry)) (now (t .entry)) (now (a .entry))) ⌝ }
+    ensures { λ o. ⌜ eqb o 0 ≡ long (proveLent (lengths (levelAt FIRST) key) (keySlices (now (h .entry)) (now (x .entry)) (now (y .entry))) (now (positions .entry)) (now (u .entry)) (now (v .entry)) (now (r .entry)) (now (s .entry)) (now (alpha .entry)) (now (t .entry)) (now (a .entry))) ⌝ }
 {
     let len = key.lengths(FIRST);
     let outputs = (t.len() ^ len.bits) | (a.len() ^ len.proof);
@@ -48,7 +49,7 @@ fn lengths(
         | ((s.len() ^ len.masks) | ((alpha.len() ^ len.values) | outputs));
     let material = (positions.len() ^ len.positions)
         | ((u.len() ^ len.bits) | ((v.len() ^ len.elements) | masks));
-    (h.len() ^ len.matrix) | ((x.len() ^ len.vector) | material)
+    (h.len() ^ len.matrix) | ((x.len() ^ len.vector) | ((y.len() ^ len.target) | material))
 }
 
 // The first of refusals 1 to 7 that applies, or Done.
@@ -56,6 +57,7 @@ fn refused(
     key: Key,
     h: &[u16],
     x: &[u16],
+    y: &[u16],
     positions: &[u8],
     u: &[u8],
     v: &[u16],
@@ -65,17 +67,17 @@ fn refused(
     t: &[u8],
     a: &[u16],
 ) -> Answer
-    ensures { λ o. ⌜ o ≡ firstOf (proveRows (levelAt FIRST) key (now (h .entry)) (now (x .entry)) (now (positions .entry)) (now (u .entry)) (now (v .entry)) (now (r .entry)) (now (s .entry)) (now (alpha .entry)) (now (t .entry)) (now (a .entry))) ⌝ }
+    ensures { λ o. ⌜ o ≡ firstOf (proveRows (levelAt FIRST) key (keySlices (now (h .entry)) (now (x .entry)) (now (y .entry))) (now (positions .entry)) (now (u .entry)) (now (v .entry)) (now (r .entry)) (now (s .entry)) (now (alpha .entry)) (now (t .entry)) (now (a .entry))) ⌝ }
 {
     let sizes = key.sizes(FIRST);
     if let Answer::Refused(_) = sizes {
         return sizes;
     }
-    let slices = lengths(key, h, x, positions, u, v, r, s, alpha, t, a);
+    let slices = lengths(key, h, x, y, positions, u, v, r, s, alpha, t, a);
     if slices != 0 {
         return Answer::Refused(Refusal::SLICE_LENGTH);
     }
-    let elements = field::excess(h, FIRST) | field::excess(x, FIRST);
+    let elements = key::excess(h, x, y, FIRST);
     let coordinates = field::excess(v, FIRST)
         | (field::excess(r, FIRST) | (field::excess(s, FIRST) | field::excess(alpha, FIRST)));
     let positions = key::over(positions, key.degree());
@@ -83,14 +85,22 @@ fn refused(
 }
 
 // Zero exactly when all n + m top coefficients are zero; they do not depend on the offsets. p is room for them, work for 2^d elements.
-fn tops(key: Key, h: &[u16], x: &[u16], positions: &[u8], p: &mut [u16], work: &mut [u16]) -> u16
-    requires { ⌜ Sized (levelAt FIRST) key × LentKey (levelAt FIRST) (key .n) (key .m) (now h) (now x) ⌝ }
+fn tops(
+    key: Key,
+    h: &[u16],
+    x: &[u16],
+    y: &[u16],
+    positions: &[u8],
+    p: &mut [u16],
+    work: &mut [u16],
+) -> u16
+    requires { ⌜ Sized (levelAt FIRST) key × LentKey (levelAt FIRST) (key .n) (key .m) (now h) (now x) × LentTarget (levelAt FIRST) (key .m) (now y) ⌝ }
     requires { ⌜ (length (now positions) ≡ lengths (levelAt FIRST) key .positions) × (length (now p) ≡ 1524) × (length (now work) ≡ 5376) ⌝ }
-    ensures { λ o. ⌜ ((v : List ℕ) → eqb o 0 ≡ topsZero (levelAt FIRST) (system (levelAt FIRST) key (now (h .entry)) (now (x .entry))) (witnessOf (key .n) (now (positions .entry))) v) ⌝ }
+    ensures { λ o. ⌜ ((v : List ℕ) → eqb o 0 ≡ topsZero (levelAt FIRST) (system (levelAt FIRST) key (keySlices (now (h .entry)) (now (x .entry)) (now (y .entry)))) (witnessOf (key .n) (now (positions .entry))) v) ⌝ }
 {
     let n = key.n;
     let m = key.m;
-    rows::tops(p, n, m, key.degree(), h, x, positions, work, FIRST);
+    rows::tops(p, n, m, key.degree(), h, x, y, positions, work, FIRST);
     checkzero::nonzero(p, n + m, FIRST)
 }
 
@@ -99,6 +109,7 @@ fn weigh(
     key: Key,
     h: &[u16],
     x: &[u16],
+    y: &[u16],
     positions: &[u8],
     u: &[u8],
     v: &[u16],
@@ -110,11 +121,11 @@ fn weigh(
     p: &mut [u16],
     work: &mut [u16],
 ) -> Answer
-    requires { ⌜ firstOf (proveRows (levelAt FIRST) key (now h) (now x) (now positions) (now u) (now v) (now r) (now s) (now alpha) (now t) (now a)) ≡ Done ⌝ }
+    requires { ⌜ firstOf (proveRows (levelAt FIRST) key (keySlices (now h) (now x) (now y)) (now positions) (now u) (now v) (now r) (now s) (now alpha) (now t) (now a)) ≡ Done ⌝ }
     requires { ⌜ (length (now p) ≡ 1524) × (length (now work) ≡ 5376) ⌝ }
-    ensures { λ o. ⌜ (o, (now (t .exit), now (a .exit))) ≡ decided (topsRow (levelAt FIRST) key (now (h .entry)) (now (x .entry)) (now (positions .entry)) (now (v .entry))) (proveResult (levelAt FIRST) key (now (h .entry)) (now (x .entry)) (now (positions .entry)) (now (u .entry)) (now (v .entry)) (now (r .entry)) (now (s .entry)) (now (alpha .entry))) (now (t .entry), now (a .entry)) ⌝ }
+    ensures { λ o. ⌜ (o, (now (t .exit), now (a .exit))) ≡ decided (topsRow (levelAt FIRST) key (keySlices (now (h .entry)) (now (x .entry)) (now (y .entry))) (now (positions .entry)) (now (v .entry))) (proveResult (levelAt FIRST) key (keySlices (now (h .entry)) (now (x .entry)) (now (y .entry))) (now (positions .entry)) (now (u .entry)) (now (v .entry)) (now (r .entry)) (now (s .entry)) (now (alpha .entry))) (now (t .entry), now (a .entry)) ⌝ }
 {
-    if tops(key, h, x, positions, p, work) != 0 {
+    if tops(key, h, x, y, positions, p, work) != 0 {
         return Answer::Refused(Refusal::TOP);
     }
     constraints::write_masked_witness(key, positions, u, t);
@@ -130,6 +141,7 @@ fn work(
     key: Key,
     h: &[u16],
     x: &[u16],
+    y: &[u16],
     positions: &[u8],
     u: &[u8],
     v: &[u16],
@@ -139,8 +151,8 @@ fn work(
     t: &mut [u8],
     a: &mut [u16],
 ) -> Answer
-    requires { ⌜ firstOf (proveRows (levelAt FIRST) key (now h) (now x) (now positions) (now u) (now v) (now r) (now s) (now alpha) (now t) (now a)) ≡ Done ⌝ }
-    ensures { λ o. ⌜ (o, (now (t .exit), now (a .exit))) ≡ decided (topsRow (levelAt FIRST) key (now (h .entry)) (now (x .entry)) (now (positions .entry)) (now (v .entry))) (proveResult (levelAt FIRST) key (now (h .entry)) (now (x .entry)) (now (positions .entry)) (now (u .entry)) (now (v .entry)) (now (r .entry)) (now (s .entry)) (now (alpha .entry))) (now (t .entry), now (a .entry)) ⌝ }
+    requires { ⌜ firstOf (proveRows (levelAt FIRST) key (keySlices (now h) (now x) (now y)) (now positions) (now u) (now v) (now r) (now s) (now alpha) (now t) (now a)) ≡ Done ⌝ }
+    ensures { λ o. ⌜ (o, (now (t .exit), now (a .exit))) ≡ decided (topsRow (levelAt FIRST) key (keySlices (now (h .entry)) (now (x .entry)) (now (y .entry))) (now (positions .entry)) (now (v .entry))) (proveResult (levelAt FIRST) key (keySlices (now (h .entry)) (now (x .entry)) (now (y .entry))) (now (positions .entry)) (now (u .entry)) (now (v .entry)) (now (r .entry)) (now (s .entry)) (now (alpha .entry))) (now (t .entry), now (a .entry)) ⌝ }
 {
     let mut elements = [0u16; ELEMENTS];
     let mut work = [0u16; WORK];
@@ -148,6 +160,7 @@ fn work(
         key,
         h,
         x,
+        y,
         positions,
         u,
         v,
@@ -166,6 +179,7 @@ pub fn prove(
     key: Key,
     h: &[u16],
     x: &[u16],
+    y: &[u16],
     positions: &[u8],
     u: &[u8],
     v: &[u16],
@@ -175,12 +189,12 @@ pub fn prove(
     t: &mut [u8],
     a: &mut [u16],
 ) -> Answer
-    ensures outcome { λ o. ⌜ (o, (now (t .exit), now (a .exit))) ≡ proveOutcome (levelAt FIRST) key (now (h .entry)) (now (x .entry)) (now (positions .entry)) (now (u .entry)) (now (v .entry)) (now (r .entry)) (now (s .entry)) (now (alpha .entry)) (now (t .entry)) (now (a .entry)) ⌝ }
-    ensures solved { λ o. ⌜ Solved (levelAt FIRST) key (now (h .entry)) (now (x .entry)) (now (positions .entry)) (now (u .entry)) (now (v .entry)) (now (r .entry)) (now (s .entry)) (now (alpha .entry)) (now (t .entry)) (now (a .entry)) (o ≡ Done) (o ≡ refusal 8) ⌝ }
+    ensures outcome { λ o. ⌜ (o, (now (t .exit), now (a .exit))) ≡ proveOutcome (levelAt FIRST) key (keySlices (now (h .entry)) (now (x .entry)) (now (y .entry))) (now (positions .entry)) (now (u .entry)) (now (v .entry)) (now (r .entry)) (now (s .entry)) (now (alpha .entry)) (now (t .entry)) (now (a .entry)) ⌝ }
+    ensures solved { λ o. ⌜ Solved (levelAt FIRST) key (keySlices (now (h .entry)) (now (x .entry)) (now (y .entry))) (now (positions .entry)) (now (u .entry)) (now (v .entry)) (now (r .entry)) (now (s .entry)) (now (alpha .entry)) (now (t .entry)) (now (a .entry)) (o ≡ Done) (o ≡ refusal 8) ⌝ }
 {
-    let answer = refused(key, h, x, positions, u, v, r, s, alpha, t, a);
+    let answer = refused(key, h, x, y, positions, u, v, r, s, alpha, t, a);
     match answer {
-        Answer::Done => work(key, h, x, positions, u, v, r, s, alpha, t, a),
+        Answer::Done => work(key, h, x, y, positions, u, v, r, s, alpha, t, a),
         Answer::Refused(_) => answer,
     }
 }

@@ -15,7 +15,7 @@ impl Refusal {
     pub const SIZE_M: Refusal = Refusal { number: 2 };
     // a lent slice isn't of its stated length
     pub const SLICE_LENGTH: Refusal = Refusal { number: 3 };
-    // an element of H or x is above the limit
+    // an element of H, x or y is above the limit
     pub const KEY_ELEMENT: Refusal = Refusal { number: 4 };
     // a byte of u or t is above 1
     pub const BIT: Refusal = Refusal { number: 5 };
@@ -33,6 +33,8 @@ impl Refusal {
     pub const FIELD_LENGTH: Refusal = Refusal { number: 11 };
     // bytes follow the last field
     pub const BYTES_FOLLOW: Refusal = Refusal { number: 12 };
+    // field 04 is present and all its elements are zero
+    pub const ZERO_TARGET: Refusal = Refusal { number: 14 };
     // a four-byte serial is below 65,536
     pub const LONG_SERIAL: Refusal = Refusal { number: 19 };
 }

@@ -1,13 +1,14 @@
 -- Sums, and elements to which others are added.
-use mathlib.Core.Path.{_≡_, refl, sym, _∙_, ap, ap₂}
+use mathlib.Core.Path.{_≡_, refl, sym, _∙_, ap, ap₂, subst}
 use Prim.Native.Nat.{ℕ, zero, suc, _+_, _*_, _≤_, _<_}
 use native.Mathlib.Decide.{ℕ-discrete}
+use native.Mathlib.Nat.{zero-add}
 use native.Mathlib.Numerals.{add-one}
 use native.Mathlib.Omega.{arith}
 use borrow.Author.Count.{below-more}
 use Rattle.field.specs.Ring.{Ring}
-use Rattle.row.specs.Polynomial.{sum}
-use Rattle.row.specs.Step.{Put, Added, AddedDown, Shared}
+use Rattle.row.specs.Polynomial.{sum, monomial}
+use Rattle.row.specs.Step.{Put, Added, AddedDown, Shared, Topped}
 use Rattle.row.proofs.NumberLaws.{row-le, cells}
 
 module _ (R : Ring) where
@@ -86,3 +87,34 @@ module _ (R : Ring) where
       column = λ j l k p. let i : s * j + k < s * n = omega (arith, row-le s j n l) in c .columns (s * j + k) i ∙ a .low (s * j + k) i;
       check = λ e l k p. c .done e l k p ∙ ap (λ y. y ⊕ h e ⊗ mixed k) (a .rest (s * n + s * e + k) (omega arith));
     }
+
+  -- y X^d has y at place d, and zero at every other
+  pub monomial-same : (y : Carrier) (d : ℕ) → monomial R y d d ≡ y
+  unfolding monomial
+  monomial-same y zero = refl
+  monomial-same y (suc d) = monomial-same y d
+
+  pub monomial-other : (y : Carrier) (d k : ℕ) → (k ≡ d → ⊥) → monomial R y d k ≡ 𝟘
+  unfolding monomial
+  monomial-other y zero zero h = absurd (h refl)
+  monomial-other y zero (suc k) h = refl
+  monomial-other y (suc d) zero h = refl
+  monomial-other y (suc d) (suc k) h = monomial-other y d k (λ e. h (ap suc e))
+
+  -- c j added at place d of row j, of s elements from a on
+  down-monomial : (f g : ℕ → Carrier) (a s d n : ℕ) (c : ℕ → Carrier) → d < s → AddedDown R f g a s d c n → (j : ℕ) → j < n → (k : ℕ) → k < s → g (a + s * j + k) ≡ f (a + s * j + k) ⊕ monomial R (c j) d k
+  down-monomial f g a s d n c h t j l k b = pick (ℕ-discrete k d)
+    where
+      pick : Dec (k ≡ d) → g (a + s * j + k) ≡ f (a + s * j + k) ⊕ monomial R (c j) d k
+      pick (yes e) = subst (λ i. g (a + s * j + i) ≡ f (a + s * j + i) ⊕ monomial R (c j) d i) (sym e) (t .place j l ∙ ap (λ z. f (a + s * j + d) ⊕ z) (sym (monomial-same (c j) d)))
+      pick (no e) = t .rest (a + s * j + k) (λ i l p. away i p (ℕ-discrete j i)) ∙ sym (R .add-zero (f (a + s * j + k))) ∙ ap (λ z. f (a + s * j + k) ⊕ z) (sym (monomial-other (c j) d k e))
+        where
+          away : (i : ℕ) → a + s * j + k ≡ a + s * i + d → Dec (j ≡ i) → ⊥
+          away i p (yes q) = e (omega (arith, ap (λ r. s * r) q))
+          away i p (no q) = cells s j k i d b h q (omega arith)
+
+  pub topped : (f f₁ g : ℕ → Carrier) (n m s d : ℕ) (p : Carrier) (y : ℕ → Carrier) → d < s → AddedDown R f f₁ 0 s d (λ j. p) n → AddedDown R f₁ g (s * n) s d (λ e. y e ⊗ p) m → Topped R f g n m s d p y
+  topped f f₁ g n m s d p y h t u = record {
+    column = λ j l k b. u .rest (s * j + k) (λ e i q. omega (arith, row-le s j n l)) ∙ subst (λ i. f₁ (i + k) ≡ f (i + k) ⊕ monomial R p d k) (zero-add (s * j)) (down-monomial f f₁ 0 s d n (λ j. p) h t j l k b);
+    check = λ e l k b. down-monomial f₁ g (s * n) s d m (λ e. y e ⊗ p) h u e l k b ∙ ap (λ z. z ⊕ monomial R (y e ⊗ p) d k) (t .rest (s * n + s * e + k) (λ j i q. omega (arith, row-le s j n i)));
+  }

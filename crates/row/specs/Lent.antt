@@ -10,12 +10,17 @@ use Rattle.field.specs.Word.{odd, small}
 use Rattle.row.specs.Elements.{el, Within}
 use Rattle.row.specs.Polynomial.{digit}
 
--- the lent key: H, m rows of n words, and x, all within the limit
+-- the lent matrix and vector of a key: H, m rows of n words, and x, all within the limit
 pub record LentKey (l : Level) (n m : ℕ) (h x : List ℕ) : Type 0 where
   pub h-length : length h ≡ n * m
   pub x-length : length x ≡ n
   pub h-within : Within l h
   pub x-within : Within l x
+
+-- the lent target: y, m words within the limit
+pub record LentTarget (l : Level) (m : ℕ) (y : List ℕ) : Type 0 where
+  pub y-length : length y ≡ m
+  pub y-within : Within l y
 
 -- word j of x as an element of K
 abbrev pub smallOf : (l : Level) → List ℕ → ℕ → K l .Carrier

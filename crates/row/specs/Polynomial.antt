@@ -66,19 +66,19 @@ module _ (R : Ring) where
   unfoldable pub value : (d : ℕ) (w : ℕ → Bool) (q : ℕ → Carrier) (Δ : Carrier) (j : ℕ) → Carrier
   value d w q Δ j = end d w q Δ j d
 
-  -- of n, d, the rows of H, x, the digits w and the offsets v: polynomial j, the sum of z(i,j) over all rows i, minus X^d;
-  -- polynomial n + e, the sum over i of H(e,i) times x'(i), where x'(i) is the sum over j of x(j) times z(i,j)
-  module _ (n d : ℕ) (H : ℕ → ℕ → Carrier) (x : ℕ → Carrier) (w : ℕ → ℕ → Bool) (v : ℕ → ℕ → Carrier) where
+  -- of n, d, the rows of H, x, y, the digits w and the offsets v: polynomial j, the sum of z(i,j) over all rows i, minus X^d;
+  -- polynomial n + e, the sum over i of H(e,i) times x'(i), where x'(i) is the sum over j of x(j) times z(i,j), minus y(e) X^d
+  module _ (n d : ℕ) (H : ℕ → ℕ → Carrier) (x y : ℕ → Carrier) (w : ℕ → ℕ → Bool) (v : ℕ → ℕ → Carrier) where
     unfoldable pub column : ℕ → ℕ → Carrier
     column j k = sum n (λ i. z d (w i) (v i) j k) ⊕ monomial 𝟙 d k
 
     unfoldable pub check : ℕ → ℕ → Carrier
-    check e k = sum n (λ i. H e i ⊗ sum n (λ j. x j ⊗ z d (w i) (v i) j k))
+    check e k = sum n (λ i. H e i ⊗ sum n (λ j. x j ⊗ z d (w i) (v i) j k)) ⊕ monomial (y e) d k
 
   -- the verifier's values, of the digits of t, of q and of Δ
-  module _ (n d : ℕ) (H : ℕ → ℕ → Carrier) (x : ℕ → Carrier) (t : ℕ → ℕ → Bool) (q : ℕ → ℕ → Carrier) (Δ : Carrier) where
+  module _ (n d : ℕ) (H : ℕ → ℕ → Carrier) (x y : ℕ → Carrier) (t : ℕ → ℕ → Bool) (q : ℕ → ℕ → Carrier) (Δ : Carrier) where
     unfoldable pub columnValue : ℕ → Carrier
     columnValue j = sum n (λ i. value d (t i) (q i) Δ j) ⊕ raise Δ d
 
     unfoldable pub checkValue : ℕ → Carrier
-    checkValue e = sum n (λ i. H e i ⊗ sum n (λ j. x j ⊗ value d (t i) (q i) Δ j))
+    checkValue e = sum n (λ i. H e i ⊗ sum n (λ j. x j ⊗ value d (t i) (q i) Δ j)) ⊕ y e ⊗ raise Δ d

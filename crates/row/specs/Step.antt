@@ -8,7 +8,7 @@ use Rattle.field.specs.Ring.{Ring}
 use Rattle.field.specs.declared.Level.{Level}
 use Rattle.field.specs.Level.{K}
 use Rattle.row.specs.Elements.{el, Words}
-use Rattle.row.specs.Polynomial.{sum, times}
+use Rattle.row.specs.Polynomial.{sum, times, monomial}
 
 -- a list of words became another as long, and P holds of their elements
 pub record Step (l : Level) (xs ys : List ℕ) (P : (ℕ → K l .Carrier) → (ℕ → K l .Carrier) → Type 0) : Type 0 where
@@ -75,3 +75,8 @@ module _ (R : Ring) where
   pub record Shared (f g : ℕ → Carrier) (n m s : ℕ) (c : ℕ → ℕ → Carrier) (x h : ℕ → Carrier) : Type 0 where
     pub column : (j : ℕ) → j < n → (k : ℕ) → k < s → g (s * j + k) ≡ f (s * j + k) ⊕ c j k
     pub check : (e : ℕ) → e < m → (k : ℕ) → k < s → g (s * n + s * e + k) ≡ f (s * n + s * e + k) ⊕ h e ⊗ sum R n (λ j. x j ⊗ c j k)
+
+  -- p is added at X^d of each of n columns of s coefficients, and y e times p at that of check e, for m checks after them
+  pub record Topped (f g : ℕ → Carrier) (n m s d : ℕ) (p : Carrier) (y : ℕ → Carrier) : Type 0 where
+    pub column : (j : ℕ) → j < n → (k : ℕ) → k < s → g (s * j + k) ≡ f (s * j + k) ⊕ monomial R p d k
+    pub check : (e : ℕ) → e < m → (k : ℕ) → k < s → g (s * n + s * e + k) ≡ f (s * n + s * e + k) ⊕ monomial R (y e ⊗ p) d k

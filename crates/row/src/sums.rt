@@ -5,8 +5,8 @@ ghost use Rattle.field.specs.Level.{levelAt, K};
 ghost use Rattle.field.specs.Packed.{Holds};
 ghost use Rattle.row.specs.Elements.{el, Fits, Words, Within, valueOf, Held};
 ghost use Rattle.row.specs.Polynomial.{sum};
-ghost use Rattle.row.specs.Step.{Step, Added, AddedDown, Shared};
-ghost use Rattle.row.specs.Lent.{LentKey, smallOf, entryOf};
+ghost use Rattle.row.specs.Step.{Step, Added, AddedDown, Shared, Topped};
+ghost use Rattle.row.specs.Lent.{LentKey, LentTarget, smallOf, entryOf};
 use crate::elements;
 use field::Element;
 use field::Multiples;
@@ -24,13 +24,13 @@ pub fn add(dst: &mut [u16], src: &[u16], n: usize, level: usize)
     }
 }
 
-// The sum over j of x(j) times element k of row j of src, of s elements.
-fn mix(src: &[u16], k: usize, s: usize, x: &[u16], n: usize, level: usize) -> Element
-    requires { ⌜ Words (levelAt level) (now src) × Within (levelAt level) (now x) × (n ≤ length (now x)) × (k < s) × Fits (levelAt level) (s * n) (length (now src)) ⌝ }
-    ensures { λ r. ⌜ Holds (levelAt level) (r .words) (sum (K (levelAt level)) n (λ j. K (levelAt level) .mul (smallOf (levelAt level) (now (x .entry)) j) (el (levelAt level) (now (src .entry)) (s * j + k)))) ⌝ }
+// The sum over j of x(j) times element k of row j of src, of s elements from a on.
+pub fn mix(src: &[u16], a: usize, s: usize, k: usize, x: &[u16], n: usize, level: usize) -> Element
+    requires { ⌜ Words (levelAt level) (now src) × Within (levelAt level) (now x) × (n ≤ length (now x)) × (k < s) × Fits (levelAt level) (a + s * n) (length (now src)) ⌝ }
+    ensures { λ r. ⌜ Holds (levelAt level) (r .words) (sum (K (levelAt level)) n (λ j. K (levelAt level) .mul (smallOf (levelAt level) (now (x .entry)) j) (el (levelAt level) (now (src .entry)) (a + s * j + k)))) ⌝ }
 {
     let mut parts = [0u64; field::TABLE];
-    let mut at: usize = 0;
+    let mut at = a;
     let mut j: usize = 0;
     while j < n {
         let term = elements::get(src, at + k, level);
@@ -42,7 +42,7 @@ fn mix(src: &[u16], k: usize, s: usize, x: &[u16], n: usize, level: usize) -> El
 }
 
 // Adds y times entry i of row e of H to element k of row e of dst, of s elements from a on.
-fn spread(
+pub fn spread(
     dst: &mut [u16],
     a: usize,
     s: usize,
@@ -88,14 +88,14 @@ pub fn share(
     add(dst, src, count, level);
     let mut k: usize = 0;
     while k < s {
-        let total = mix(src, k, s, x, n, level);
+        let total = mix(src, 0, s, k, x, n, level);
         spread(dst, count, s, k, total, h, n, m, i, level);
         k += 1;
     }
 }
 
 // Adds y to element k of each of the first n rows of s elements.
-pub fn tops(dst: &mut [u16], n: usize, s: usize, k: usize, y: Element, level: usize)
+fn column_tops(dst: &mut [u16], n: usize, s: usize, k: usize, y: Element, level: usize)
     requires { ⌜ Words (levelAt level) (now dst) × Held (levelAt level) (y .words) × (k < s) × Fits (levelAt level) (s * n) (length (now dst)) ⌝ }
     ensures { λ _. ⌜ Step (levelAt level) (now (dst .entry)) (now (dst .exit)) (λ f g. AddedDown (K (levelAt level)) f g 0 s k (λ e. valueOf (levelAt level) (y .words)) n) ⌝ }
 {
@@ -106,4 +106,22 @@ pub fn tops(dst: &mut [u16], n: usize, s: usize, k: usize, y: Element, level: us
         at += s;
         j += 1;
     }
+}
+
+// Subtracts what the n columns and the m checks lose at element k of s: each column one, and check e y(e), each times power.
+pub fn tops(
+    dst: &mut [u16],
+    n: usize,
+    m: usize,
+    s: usize,
+    k: usize,
+    power: Element,
+    y: &[u16],
+    level: usize,
+)
+    requires { ⌜ Words (levelAt level) (now dst) × Held (levelAt level) (power .words) × LentTarget (levelAt level) m (now y) × (k < s) × Fits (levelAt level) (s * n + s * m) (length (now dst)) ⌝ }
+    ensures { λ _. ⌜ Step (levelAt level) (now (dst .entry)) (now (dst .exit)) (λ f g. Topped (K (levelAt level)) f g n m s k (valueOf (levelAt level) (power .words)) (smallOf (levelAt level) (now (y .entry)))) ⌝ }
+{
+    column_tops(dst, n, s, k, power, level);
+    spread(dst, s * n, s, k, power, y, 1, m, 0, level);
 }

@@ -1,11 +1,11 @@
 -- The shares of rows, added one after the other.
-use mathlib.Core.Path.{_≡_, sym, _∙_, ap}
+use mathlib.Core.Path.{_≡_, _∙_, ap}
 use Prim.Native.Nat.{ℕ, _+_, _*_, _<_}
 use native.Mathlib.Nat.{mul-add}
 use native.Mathlib.Omega.{arith}
 use Rattle.field.specs.Ring.{Ring}
-use Rattle.row.specs.Polynomial.{sum}
-use Rattle.row.specs.Step.{AddedDown, Shared}
+use Rattle.row.specs.Polynomial.{sum, monomial}
+use Rattle.row.specs.Step.{Shared, Topped}
 use Rattle.row.proofs.NumberLaws.{row-le}
 use Rattle.row.proofs.SumLaws.{sum-more, sum-cong}
 
@@ -36,19 +36,18 @@ module _ (R : Ring) where
       check = λ e a k b. r .check e a k b ∙ ap (λ y. y ⊕ h e i ⊗ sum R n (λ j. x j ⊗ c i j k)) (t .check e a k b) ∙ sum-more R i (λ q. h e q ⊗ sum R n (λ j. x j ⊗ c q j k));
     }
 
-  -- rows of one element: y is added to the first n of them
-  module _ (f g : ℕ → Carrier) (n : ℕ) (y : Carrier) (t : AddedDown R f g 0 1 0 (λ e. y) n) where
-    pub single-added : (j : ℕ) (c : Carrier) → j < n → f (1 * j + 0) ≡ c → g j ≡ c ⊕ y
-    single-added j c l h = ap g (sym place) ∙ t .place j l ∙ ap (λ i. f i ⊕ y) (place ∙ sym same) ∙ ap (λ z. z ⊕ y) h
+  -- rows of one element
+  module _ (f g : ℕ → Carrier) (n m : ℕ) (p : Carrier) (y : ℕ → Carrier) (t : Topped R f g n m 1 0 p y) where
+    pub single-column : (j : ℕ) (c : Carrier) → j < n → f (1 * j + 0) ≡ c → g j ≡ c ⊕ p
+    unfolding monomial
+    single-column j c l h = ap g place ∙ t .column j l 0 (omega arith) ∙ ap (λ z. z ⊕ p) h
       where
-        place : 0 + 1 * j + 0 ≡ j
+        place : j ≡ 1 * j + 0
         place = omega arith
 
-        same : 1 * j + 0 ≡ j
-        same = omega arith
-
-    pub single-other : (e : ℕ) (c : Carrier) → f (1 * n + 1 * e + 0) ≡ c → g (n + e) ≡ c
-    single-other e c h = t .rest (n + e) (λ i l q. omega arith) ∙ ap f place ∙ h
+    pub single-check : (e : ℕ) (c : Carrier) → e < m → f (1 * n + 1 * e + 0) ≡ c → g (n + e) ≡ c ⊕ y e ⊗ p
+    unfolding monomial
+    single-check e c l h = ap g place ∙ t .check e l 0 (omega arith) ∙ ap (λ z. z ⊕ y e ⊗ p) h
       where
         place : n + e ≡ 1 * n + 1 * e + 0
         place = omega arith

@@ -13,7 +13,7 @@ ghost use Rattle.row.specs.Lists.{tab};
 ghost use Rattle.row.specs.Elements.{el, Fits, Words, Bits, valueOf, Held};
 ghost use Rattle.row.specs.Polynomial.{digit, z, value};
 ghost use Rattle.row.specs.Step.{Step, Shared};
-ghost use Rattle.row.specs.Lent.{LentKey, smallOf, entryOf};
+ghost use Rattle.row.specs.Lent.{LentKey, LentTarget, smallOf, entryOf};
 ghost use Rattle.rows.specs.Outcome.{polynomials, Tops, values, maskedWitness};
 use field::Element;
 use row::elements;
@@ -51,14 +51,15 @@ pub fn polynomials(
     d: usize,
     h: &[u16],
     x: &[u16],
+    y: &[u16],
     positions: &[u8],
     offsets: &[u16],
     work: &mut [u16],
     level: usize,
 )
-    requires { ⌜ LentKey (levelAt level) n m (now h) (now x) × Words (levelAt level) (now offsets) × (0 < levelAt level .coordinates) × (d < 64) × (n ≤ 2 ^ d) ⌝ }
+    requires { ⌜ LentKey (levelAt level) n m (now h) (now x) × Words (levelAt level) (now offsets) × (0 < levelAt level .coordinates) × (d < 64) × (n ≤ 2 ^ d) × LentTarget (levelAt level) m (now y) ⌝ }
     requires { ⌜ (length (now positions) ≡ n) × (length (now offsets) ≡ levelAt level .coordinates * (d * n)) × (length (now dst) ≡ levelAt level .coordinates * ((d + 1) * (n + m))) × Fits (levelAt level) ((d + 1) * 2 ^ d) (length (now work)) ⌝ }
-    ensures { λ _. ⌜ now (dst .exit) ≡ polynomials (levelAt level) n m d (now (h .entry)) (now (x .entry)) (now (positions .entry)) (now (offsets .entry)) ⌝ }
+    ensures { λ _. ⌜ now (dst .exit) ≡ polynomials (levelAt level) n m d (now (h .entry)) (now (x .entry)) (now (y .entry)) (now (positions .entry)) (now (offsets .entry)) ⌝ }
 {
     row::clear(dst);
     row::clear(work);
@@ -70,7 +71,7 @@ pub fn polynomials(
         at += d;
         i += 1;
     }
-    sums::tops(dst, n, d + 1, d, Element::one(level), level);
+    sums::tops(dst, n, m, d + 1, d, Element::one(level), y, level);
 }
 
 // Adds row i's share to the n + m coefficients of X^d. work takes those of its products.
@@ -103,12 +104,13 @@ pub fn tops(
     d: usize,
     h: &[u16],
     x: &[u16],
+    y: &[u16],
     positions: &[u8],
     work: &mut [u16],
     level: usize,
 )
-    requires { ⌜ LentKey (levelAt level) n m (now h) (now x) × (d < 64) × (n ≤ 2 ^ d) × (length (now positions) ≡ n) × Fits (levelAt level) (n + m) (length (now dst)) × Fits (levelAt level) (2 ^ d) (length (now work)) ⌝ }
-    ensures { λ _. ⌜ Step (levelAt level) (now (dst .entry)) (now (dst .exit)) (λ f g. (v : List ℕ) → Tops (levelAt level) n m d (now (h .entry)) (now (x .entry)) (now (positions .entry)) v g) ⌝ }
+    requires { ⌜ LentKey (levelAt level) n m (now h) (now x) × (d < 64) × (n ≤ 2 ^ d) × (length (now positions) ≡ n) × Fits (levelAt level) (n + m) (length (now dst)) × Fits (levelAt level) (2 ^ d) (length (now work)) × LentTarget (levelAt level) m (now y) ⌝ }
+    ensures { λ _. ⌜ Step (levelAt level) (now (dst .entry)) (now (dst .exit)) (λ f g. (v : List ℕ) → Tops (levelAt level) n m d (now (h .entry)) (now (x .entry)) (now (y .entry)) (now (positions .entry)) v g) ⌝ }
 {
     row::clear(dst);
     row::clear(work);
@@ -118,7 +120,7 @@ pub fn tops(
         top_row(dst, n, m, d, h, x, i, position, work, level);
         i += 1;
     }
-    sums::tops(dst, n, 1, 0, Element::one(level), level);
+    sums::tops(dst, n, m, 1, 0, Element::one(level), y, level);
 }
 
 // Adds row i's share to the n + m values. The row's bits and numbers stand from at on; work takes its products.
@@ -153,15 +155,16 @@ pub fn values(
     d: usize,
     h: &[u16],
     x: &[u16],
+    y: &[u16],
     bits: &[u8],
     numbers: &[u16],
     delta: &[u16],
     work: &mut [u16],
     level: usize,
 )
-    requires { ⌜ LentKey (levelAt level) n m (now h) (now x) × Words (levelAt level) (now numbers) × Words (levelAt level) (now delta) × Bits (now bits) × (0 < levelAt level .coordinates) × (n ≤ 2 ^ d) ⌝ }
+    requires { ⌜ LentKey (levelAt level) n m (now h) (now x) × Words (levelAt level) (now numbers) × Words (levelAt level) (now delta) × Bits (now bits) × (0 < levelAt level .coordinates) × (n ≤ 2 ^ d) × LentTarget (levelAt level) m (now y) ⌝ }
     requires { ⌜ (length (now bits) ≡ d * n) × (length (now numbers) ≡ levelAt level .coordinates * (d * n)) × (length (now delta) ≡ levelAt level .coordinates) × (length (now dst) ≡ levelAt level .coordinates * (n + m)) × Fits (levelAt level) (2 ^ d) (length (now work)) ⌝ }
-    ensures { λ _. ⌜ now (dst .exit) ≡ values (levelAt level) n m d (now (h .entry)) (now (x .entry)) (now (bits .entry)) (now (numbers .entry)) (now (delta .entry)) ⌝ }
+    ensures { λ _. ⌜ now (dst .exit) ≡ values (levelAt level) n m d (now (h .entry)) (now (x .entry)) (now (y .entry)) (now (bits .entry)) (now (numbers .entry)) (now (delta .entry)) ⌝ }
 {
     row::clear(dst);
     row::clear(work);
@@ -187,7 +190,8 @@ pub fn values(
         at += d;
         i += 1;
     }
-    sums::tops(dst, n, 1, 0, products::raised(challenge, d, level), level);
+    let power = products::raised(challenge, d, level);
+    sums::tops(dst, n, m, 1, 0, power, y, level);
 }
 
 // A row of the masked witness, written to t from place at on: its bits u stand there too.

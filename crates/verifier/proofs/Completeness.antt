@@ -18,7 +18,7 @@ use Rattle.field.specs.Word.{within}
 use Rattle.field.proofs.Fields.{bounded}
 use Rattle.key.specs.declared.Key.{Key}
 use Rattle.key.specs.declared.Lengths.{Lengths}
-use Rattle.key.specs.Key.{degree, lengths, below, withins}
+use Rattle.key.specs.Key.{degree, KeySlices, lengths, keyWithin, below, withins}
 use Rattle.key.proofs.Checked.{Checked, checked, checked-done}
 use Rattle.constraints.specs.System.{System}
 use Rattle.constraints.specs.Entry.{system}
@@ -31,8 +31,8 @@ use Rattle.prover.proofs.Solved.{solved, solves}
 use Rattle.verifier.specs.Entry.{verifyLent, verifyRows, verifyOutcome}
 use Rattle.verifier.specs.Complete.{HonestVerifier, Complete, Completeness}
 
-module _ (number : ℕ) (key : Key) (h x positions u v r s α t₀ a₀ q Δ masks : List ℕ) (e : firstOf (proveRows (levelAt number) key h x positions u v r s α t₀ a₀) ≡ Done)
-    (solving : SolvesKey (levelAt number) key h x positions) (o : HonestVerifier (levelAt number) key h x u v r s q Δ masks) where
+module _ (number : ℕ) (key : Key) (lent : KeySlices) (positions u v r s α t₀ a₀ q Δ masks : List ℕ) (e : firstOf (proveRows (levelAt number) key lent positions u v r s α t₀ a₀) ≡ Done)
+    (solving : SolvesKey (levelAt number) key lent positions) (o : HonestVerifier (levelAt number) key lent u v r s q Δ masks) where
   abbrev l : Level
   l = levelAt number
 
@@ -40,7 +40,7 @@ module _ (number : ℕ) (key : Key) (h x positions u v r s α t₀ a₀ q Δ mas
   len = lengths l key
 
   abbrev S : System (K (levelAt number))
-  S = system l key h x
+  S = system l key lent
 
   abbrev w : ℕ → ℕ → Bool
   w = witnessOf (key .n) positions
@@ -52,18 +52,18 @@ module _ (number : ℕ) (key : Key) (h x positions u v r s α t₀ a₀ q Δ mas
   abbrev a : List ℕ
   a = proofWords l S w v r s α
 
-  known : Checked l key (long (proveLent len h x positions u v r s α t₀ a₀)) (withins l (h ∷ x ∷ [])) (below 1 u) (withins l (v ∷ r ∷ s ∷ α ∷ [])) (below (degree (key .n)) positions)
-  known = checked l key (long (proveLent len h x positions u v r s α t₀ a₀)) (withins l (h ∷ x ∷ [])) (below 1 u) (withins l (v ∷ r ∷ s ∷ α ∷ [])) (below (degree (key .n)) positions) e
+  known : Checked l key (long (proveLent len lent positions u v r s α t₀ a₀)) (keyWithin l lent) (below 1 u) (withins l (v ∷ r ∷ s ∷ α ∷ [])) (below (degree (key .n)) positions)
+  known = checked l key (long (proveLent len lent positions u v r s α t₀ a₀)) (keyWithin l lent) (below 1 u) (withins l (v ∷ r ∷ s ∷ α ∷ [])) (below (degree (key .n)) positions) e
 
-  lent : Long (proveLent len h x positions u v r s α t₀ a₀)
-  lent = each-long (proveLent len h x positions u v r s α t₀ a₀) (known .slices-fine)
+  slices : Long (proveLent len lent positions u v r s α t₀ a₀)
+  slices = each-long (proveLent len lent positions u v r s α t₀ a₀) (known .slices-fine)
 
   -- none of verify's refusals applies to it
-  not-refused : firstOf (verifyRows l key h x t q Δ masks α a) ≡ Done
-  not-refused = checked-done l key (long (verifyLent len h x t q Δ masks α a)) (withins l (h ∷ x ∷ [])) (below 1 t) (withins l (q ∷ Δ ∷ masks ∷ α ∷ a ∷ [])) true (record {
+  not-refused : firstOf (verifyRows l key lent t q Δ masks α a) ≡ Done
+  not-refused = checked-done l key (long (verifyLent len lent t q Δ masks α a)) (keyWithin l lent) (below 1 t) (withins l (q ∷ Δ ∷ masks ∷ α ∷ a ∷ [])) true (record {
     is-sized = known .is-sized;
-    slices-fine = long-each (verifyLent len h x t q Δ masks α a)
-        (lent .0, (lent .1 .0, (masked-length l S w u ∙ mul-comm (degree (key .n)) (key .n), (o .q-length, (o .Δ-length, (o .masks-length, (lent .1 .1 .1 .1 .1 .1 .1 .0, (proof-length l S w v r s α, tt))))))));
+    slices-fine = long-each (verifyLent len lent t q Δ masks α a)
+        (slices .0, (slices .1 .0, (slices .1 .1 .0, (masked-length l S w u ∙ mul-comm (degree (key .n)) (key .n), (o .q-length, (o .Δ-length, (o .masks-length, (slices .1 .1 .1 .1 .1 .1 .1 .1 .0, (proof-length l S w v r s α, tt)))))))));
     elements-fine = known .elements-fine;
     bits-fine = masked-below l S w u;
     coordinates-fine = joined (within l q) (within l Δ) (within l masks) (within l α) (within l a) (o .within-limit) (last (within l v) (within l r) (within l s) (within l α) (known .coordinates-fine)) (proof-within l S (bounded number .whole) w v r s α);
@@ -84,23 +84,23 @@ module _ (number : ℕ) (key : Key) (h x positions u v r s α t₀ a₀ q Δ mas
       last false b c d p = absurd (false≢true p)
 
   tops : topsZero l S w v ≡ true
-  tops = solves number key h x positions u v r s α t₀ a₀ e .1 solving
+  tops = solves number key lent positions u v r s α t₀ a₀ e .1 solving
 
-  done : proveOutcome l key h x positions u v r s α t₀ a₀ .0 ≡ Done
+  done : proveOutcome l key lent positions u v r s α t₀ a₀ .0 ≡ Done
   unfolding proveOutcome
-  done = solved number key h x positions u v r s α t₀ a₀ refl .done .1 (e, solving)
+  done = solved number key lent positions u v r s α t₀ a₀ refl .done .1 (e, solving)
 
-  left : proveOutcome l key h x positions u v r s α t₀ a₀ .1 ≡ (t, a)
+  left : proveOutcome l key lent positions u v r s α t₀ a₀ .1 ≡ (t, a)
   unfolding proveOutcome
-  left = result-of (proveRows l key h x positions u v r s α t₀ a₀ ++ topsRow l key h x positions v) (proveResult l key h x positions u v r s α) (t₀, a₀) refl done
+  left = result-of (proveRows l key lent positions u v r s α t₀ a₀ ++ topsRow l key lent positions v) (proveResult l key lent positions u v r s α) (t₀, a₀) refl done
 
-  pub completes : Complete (levelAt number) key h x positions u v r s α t₀ a₀ q Δ masks
+  pub completes : Complete (levelAt number) key lent positions u v r s α t₀ a₀ q Δ masks
   unfolding verifyOutcome
   completes = record {
     done = done;
-    accepted = ap (λ (p : List ℕ × List ℕ). verifyOutcome l key h x (p .0) q Δ masks α (p .1)) left
+    accepted = ap (λ (p : List ℕ × List ℕ). verifyOutcome l key lent (p .0) q Δ masks α (p .1)) left
         ∙ ap₂ judged not-refused (complete-written l S w u v r s α q Δ masks (o .honest) (o .honest-masks) tops);
   }
 
 pub completeness : (number : ℕ) → Completeness (levelAt number)
-completeness number key h x positions u v r s α t a q Δ masks e p o = completes number key h x positions u v r s α t a q Δ masks e p o
+completeness number key lent positions u v r s α t a q Δ masks e p o = completes number key lent positions u v r s α t a q Δ masks e p o

@@ -13,14 +13,14 @@ use Rattle.field.specs.declared.Level.{Level}
 use Rattle.field.specs.Level.{levelAt}
 use Rattle.field.proofs.Fields.{bounded}
 use Rattle.row.specs.Elements.{Words, Bits}
-use Rattle.row.specs.Lent.{LentKey}
+use Rattle.row.specs.Lent.{LentKey, LentTarget}
 use Rattle.key.specs.declared.Key.{Key}
 use Rattle.key.specs.declared.Lengths.{Lengths}
-use Rattle.key.specs.Key.{degree, lengths, Sized, below, withins}
+use Rattle.key.specs.Key.{degree, KeySlices, lengths, Sized, keyWithin, below, withins}
 use Rattle.key.proofs.Sized.{degree-some}
 use Rattle.key.proofs.Fine.{below-lt, each-within}
 use Rattle.key.proofs.Checked.{checked}
-use Rattle.constraints.proofs.Fine.{words-lt, lent-key}
+use Rattle.constraints.proofs.Fine.{words-lt, lent-key, lent-target}
 use Rattle.verifier.specs.Entry.{verifyLent, verifyRows}
 
 module _ (number : ℕ) (key : Key) where
@@ -33,9 +33,10 @@ module _ (number : ℕ) (key : Key) where
   pub some-degree : Sized l key → 1 ≤ degree (key .n)
   some-degree s = degree-some (key .n) (s .two) (omega (arith, s .most, bounded number .most))
 
-  pub record VerifyFine (h x t q Δ masks α a : List ℕ) : Type 0 where
+  pub record VerifyFine (lent : KeySlices) (t q Δ masks α a : List ℕ) : Type 0 where
     pub is-sized : Sized l key
-    pub is-key : LentKey l (key .n) (key .m) h x
+    pub is-key : LentKey l (key .n) (key .m) (lent .h) (lent .x)
+    pub is-target : LentTarget l (key .m) (lent .y)
     pub t-length : length t ≡ len .bits
     pub q-length : length q ≡ len .elements
     pub Δ-length : length Δ ≡ len .one
@@ -49,20 +50,21 @@ module _ (number : ℕ) (key : Key) where
     pub α-words : Words l α
     pub a-words : Words l a
 
-  pub verify-fine : (h x t q Δ masks α a : List ℕ) → firstOf (verifyRows l key h x t q Δ masks α a) ≡ Done → VerifyFine h x t q Δ masks α a
-  verify-fine h x t q Δ masks α a e =
-      let c = checked l key (long (verifyLent len h x t q Δ masks α a)) (withins l (h ∷ x ∷ [])) (below 1 t) (withins l (q ∷ Δ ∷ masks ∷ α ∷ a ∷ [])) true e in
-      let s = each-long (verifyLent len h x t q Δ masks α a) (c .slices-fine) in
+  pub verify-fine : (lent : KeySlices) (t q Δ masks α a : List ℕ) → firstOf (verifyRows l key lent t q Δ masks α a) ≡ Done → VerifyFine lent t q Δ masks α a
+  verify-fine lent t q Δ masks α a e =
+      let c = checked l key (long (verifyLent len lent t q Δ masks α a)) (keyWithin l lent) (below 1 t) (withins l (q ∷ Δ ∷ masks ∷ α ∷ a ∷ [])) true e in
+      let s = each-long (verifyLent len lent t q Δ masks α a) (c .slices-fine) in
       let f = each-within l (q ∷ Δ ∷ masks ∷ α ∷ a ∷ []) (c .coordinates-fine) in
       record {
         is-sized = c .is-sized;
-        is-key = lent-key number key h x (s .0) (s .1 .0) (c .elements-fine);
-        t-length = s .1 .1 .0;
-        q-length = s .1 .1 .1 .0;
-        Δ-length = s .1 .1 .1 .1 .0;
-        masks-length = s .1 .1 .1 .1 .1 .0;
-        α-length = s .1 .1 .1 .1 .1 .1 .0;
-        a-length = s .1 .1 .1 .1 .1 .1 .1 .0;
+        is-key = lent-key number key lent (s .0) (s .1 .0) (c .elements-fine);
+        is-target = lent-target number key lent (s .1 .1 .0) (c .elements-fine);
+        t-length = s .1 .1 .1 .0;
+        q-length = s .1 .1 .1 .1 .0;
+        Δ-length = s .1 .1 .1 .1 .1 .0;
+        masks-length = s .1 .1 .1 .1 .1 .1 .0;
+        α-length = s .1 .1 .1 .1 .1 .1 .1 .0;
+        a-length = s .1 .1 .1 .1 .1 .1 .1 .1 .0;
         t-bits = below-lt 1 t (c .bits-fine);
         q-words = words-lt number key q (f .0);
         Δ-words = words-lt number key Δ (f .1 .0);

@@ -13,6 +13,7 @@ use Rattle.refusal.specs.declared.Verdict.{Verdict}
 use Rattle.refusal.specs.declared.Verdict.the-variants.{Accepted, Rejected}
 use Rattle.field.specs.declared.Level.{Level}
 use Rattle.key.specs.declared.Key.{Key}
+use Rattle.key.specs.Key.{KeySlices}
 use Rattle.constraints.specs.Entry.{system}
 use Rattle.checkzero.specs.Slices.{AcceptsSlices, accepts}
 use Rattle.checkzero.proofs.Written.{accepts-true}
@@ -34,17 +35,17 @@ not-true : (b : Bool) → (b ≡ true → ⊥) → b ≡ false
 not-true true h = absurd (h refl)
 not-true false h = refl
 
-module _ (l : Level) (key : Key) (h x t q Δ masks α a : List ℕ) where
+module _ (l : Level) (key : Key) (lent : KeySlices) (t q Δ masks α a : List ℕ) where
   abbrev answer : Answer
-  answer = firstOf (verifyRows l key h x t q Δ masks α a)
+  answer = firstOf (verifyRows l key lent t q Δ masks α a)
 
   abbrev holds : Bool
-  holds = accepts l (system l key h x) t q Δ masks α a
+  holds = accepts l (system l key lent) t q Δ masks α a
 
-  test : (holds ≡ true) ↔ AcceptsSlices l (system l key h x) t q Δ masks α a
-  test = accepts-true l (system l key h x) t q Δ masks α a
+  test : (holds ≡ true) ↔ AcceptsSlices l (system l key lent) t q Δ masks α a
+  test = accepts-true l (system l key lent) t q Δ masks α a
 
-  judges : {verdict : Verdict} → verdict ≡ judged answer holds → Judges l key h x t q Δ masks α a (verdict ≡ Accepted) (verdict ≡ Rejected)
+  judges : {verdict : Verdict} → verdict ≡ judged answer holds → Judges l key lent t q Δ masks α a (verdict ≡ Accepted) (verdict ≡ Rejected)
   judges e = record {
     accepted = (
       λ v. let f = accepted-only answer holds (sym e ∙ v) in (f .0, test .0 (f .1)),
@@ -57,7 +58,7 @@ module _ (l : Level) (key : Key) (h x t q Δ masks α a : List ℕ) where
   }
 
   -- what is told of the answer r and of the test y gives the outcome, which judges
-  pub told : {verdict : Verdict} {r o : Answer} {y b : Bool} → r ≡ answer → r ≡ o → y ≡ holds → y ≡ b → verdict ≡ judged o b → (verdict ≡ verifyOutcome l key h x t q Δ masks α a) × Judges l key h x t q Δ masks α a (verdict ≡ Accepted) (verdict ≡ Rejected)
+  pub told : {verdict : Verdict} {r o : Answer} {y b : Bool} → r ≡ answer → r ≡ o → y ≡ holds → y ≡ b → verdict ≡ judged o b → (verdict ≡ verifyOutcome l key lent t q Δ masks α a) × Judges l key lent t q Δ masks α a (verdict ≡ Accepted) (verdict ≡ Rejected)
   unfolding verifyOutcome
   told {verdict} e p f q v = (is, judges is)
     where

@@ -12,33 +12,32 @@ use Rattle.refusal.specs.declared.Verdict.{Verdict}
 use Rattle.field.specs.declared.Level.{Level}
 use Rattle.key.specs.declared.Key.{Key}
 use Rattle.key.specs.declared.Lengths.{Lengths}
-use Rattle.key.specs.Key.{lengths, sizes, below, withins, checks}
+use Rattle.key.specs.Key.{KeySlices, lengths, sizes, keyLent, keyWithin, below, withins, checks}
 use Rattle.constraints.specs.Entry.{system}
 use Rattle.checkzero.specs.Slices.{AcceptsSlices, accepts}
 
 -- "verify (takes these with the mask numbers, α and a; answers Accepted or Rejected)", these being "the key, t, q and Δ"
-abbrev pub verifyLent : Lengths → (h x t q Δ masks α a : List ℕ) → List (List ℕ × ℕ)
-verifyLent len h x t q Δ masks α a =
-    (h, len .matrix)
-    ∷ (x, len .vector)
-    ∷ (t, len .bits)
+abbrev pub verifyLent : Lengths → KeySlices → (t q Δ masks α a : List ℕ) → List (List ℕ × ℕ)
+verifyLent len lent t q Δ masks α a =
+    keyLent len lent
+    ++ ((t, len .bits)
     ∷ (q, len .elements)
     ∷ (Δ, len .one)
     ∷ (masks, len .masks)
     ∷ (α, len .values)
     ∷ (a, len .proof)
-    ∷ []
+    ∷ [])
 
 module _ (l : Level) (key : Key) where
   -- its refusals, in order
-  abbrev pub verifyRows : (h x t q Δ masks α a : List ℕ) → List (Bool × ℕ)
-  verifyRows h x t q Δ masks α a = sizes l key ++ checks (long (verifyLent (lengths l key) h x t q Δ masks α a)) (withins l (h ∷ x ∷ [])) (below 1 t) (withins l (q ∷ Δ ∷ masks ∷ α ∷ a ∷ [])) true
+  abbrev pub verifyRows : KeySlices → (t q Δ masks α a : List ℕ) → List (Bool × ℕ)
+  verifyRows lent t q Δ masks α a = sizes l key ++ checks (long (verifyLent (lengths l key) lent t q Δ masks α a)) (keyWithin l lent) (below 1 t) (withins l (q ∷ Δ ∷ masks ∷ α ∷ a ∷ [])) true
 
-  unfoldable pub verifyOutcome : (h x t q Δ masks α a : List ℕ) → Verdict
-  verifyOutcome h x t q Δ masks α a = judged (firstOf (verifyRows h x t q Δ masks α a)) (accepts l (system l key h x) t q Δ masks α a)
+  unfoldable pub verifyOutcome : KeySlices → (t q Δ masks α a : List ℕ) → Verdict
+  verifyOutcome lent t q Δ masks α a = judged (firstOf (verifyRows lent t q Δ masks α a)) (accepts l (system l key lent) t q Δ masks α a)
 
   -- where no refusal applies: "The verifier accepts exactly when a at Δ equals" the verifier's side. Each function says how its answer tells
   -- Accepted and Rejected.
-  pub record Judges (h x t q Δ masks α a : List ℕ) (IsAccepted IsRejected : Type 0) : Type 0 where
-    pub accepted : IsAccepted ↔ ((firstOf (verifyRows h x t q Δ masks α a) ≡ Done) × AcceptsSlices l (system l key h x) t q Δ masks α a)
-    pub rejected : IsRejected ↔ ((firstOf (verifyRows h x t q Δ masks α a) ≡ Done) × (AcceptsSlices l (system l key h x) t q Δ masks α a → ⊥))
+  pub record Judges (lent : KeySlices) (t q Δ masks α a : List ℕ) (IsAccepted IsRejected : Type 0) : Type 0 where
+    pub accepted : IsAccepted ↔ ((firstOf (verifyRows lent t q Δ masks α a) ≡ Done) × AcceptsSlices l (system l key lent) t q Δ masks α a)
+    pub rejected : IsRejected ↔ ((firstOf (verifyRows lent t q Δ masks α a) ≡ Done) × (AcceptsSlices l (system l key lent) t q Δ masks α a → ⊥))

@@ -7,7 +7,7 @@ ghost use Rattle.refusal.specs.Answer.{firstOf};
 ghost use Rattle.refusal.specs.declared.Answer.the-variants.{Done};
 ghost use Rattle.refusal.specs.declared.Verdict.the-variants.{Accepted, Rejected};
 ghost use Rattle.field.specs.Level.{FIRST, levelAt};
-ghost use Rattle.key.specs.Key.{Sized, lengths};
+ghost use Rattle.key.specs.Key.{Sized, keySlices, lengths};
 ghost use Rattle.constraints.specs.Entry.{system};
 ghost use Rattle.checkzero.specs.Slices.{accepts};
 ghost use Rattle.verifier.specs.Entry.{verifyLent, verifyRows, verifyOutcome, Judges};
@@ -27,6 +27,7 @@ fn lengths(
     key: Key,
     h: &[u16],
     x: &[u16],
+    y: &[u16],
     t: &[u8],
     q: &[u16],
     delta: &[u16],
@@ -35,13 +36,13 @@ fn lengths(
     a: &[u16],
 ) -> usize
     requires { ⌜ Sized (levelAt FIRST) key ⌝ }
-    ensures { λ o. ⌜ eqb o 0 ≡ long (verifyLent (lengths (levelAt FIRST) key) (now (h .entry)) (now (x .entry)) (now (t .entry)) (now (q .entry)) (now (delta .entry)) (now (masks .entry)) (now (alpha .entry)) (now (a .entry))) ⌝ }
+    ensures { λ o. ⌜ eqb o 0 ≡ long (verifyLent (lengths (levelAt FIRST) key) (keySlices (now (h .entry)) (now (x .entry)) (now (y .entry))) (now (t .entry)) (now (q .entry)) (now (delta .entry)) (now (masks .entry)) (now (alpha .entry)) (now (a .entry))) ⌝ }
 {
     let len = key.lengths(FIRST);
     let sums = (masks.len() ^ len.masks) | ((alpha.len() ^ len.values) | (a.len() ^ len.proof));
     let material = (t.len() ^ len.bits)
         | ((q.len() ^ len.elements) | ((delta.len() ^ len.one) | sums));
-    (h.len() ^ len.matrix) | ((x.len() ^ len.vector) | material)
+    (h.len() ^ len.matrix) | ((x.len() ^ len.vector) | ((y.len() ^ len.target) | material))
 }
 
 // The first refusal that applies, or Done.
@@ -49,6 +50,7 @@ fn refused(
     key: Key,
     h: &[u16],
     x: &[u16],
+    y: &[u16],
     t: &[u8],
     q: &[u16],
     delta: &[u16],
@@ -56,17 +58,17 @@ fn refused(
     alpha: &[u16],
     a: &[u16],
 ) -> Answer
-    ensures { λ o. ⌜ o ≡ firstOf (verifyRows (levelAt FIRST) key (now (h .entry)) (now (x .entry)) (now (t .entry)) (now (q .entry)) (now (delta .entry)) (now (masks .entry)) (now (alpha .entry)) (now (a .entry))) ⌝ }
+    ensures { λ o. ⌜ o ≡ firstOf (verifyRows (levelAt FIRST) key (keySlices (now (h .entry)) (now (x .entry)) (now (y .entry))) (now (t .entry)) (now (q .entry)) (now (delta .entry)) (now (masks .entry)) (now (alpha .entry)) (now (a .entry))) ⌝ }
 {
     let sizes = key.sizes(FIRST);
     if let Answer::Refused(_) = sizes {
         return sizes;
     }
-    let slices = lengths(key, h, x, t, q, delta, masks, alpha, a);
+    let slices = lengths(key, h, x, y, t, q, delta, masks, alpha, a);
     if slices != 0 {
         return Answer::Refused(Refusal::SLICE_LENGTH);
     }
-    let elements = field::excess(h, FIRST) | field::excess(x, FIRST);
+    let elements = key::excess(h, x, y, FIRST);
     let coordinates = field::excess(q, FIRST)
         | (field::excess(delta, FIRST)
             | (field::excess(masks, FIRST)
@@ -80,6 +82,7 @@ fn difference(
     key: Key,
     h: &[u16],
     x: &[u16],
+    y: &[u16],
     t: &[u8],
     q: &[u16],
     delta: &[u16],
@@ -91,9 +94,9 @@ fn difference(
     columns: &mut [u16],
     second: &mut [u16],
 ) -> u16
-    requires { ⌜ firstOf (verifyRows (levelAt FIRST) key (now h) (now x) (now t) (now q) (now delta) (now masks) (now alpha) (now a)) ≡ Done ⌝ }
+    requires { ⌜ firstOf (verifyRows (levelAt FIRST) key (keySlices (now h) (now x) (now y)) (now t) (now q) (now delta) (now masks) (now alpha) (now a)) ≡ Done ⌝ }
     requires { ⌜ (length (now beta) ≡ 768) × (length (now scaled) ≡ 768) × (length (now columns) ≡ 768) × (length (now second) ≡ 768) ⌝ }
-    ensures { λ o. ⌜ eqb o 0 ≡ accepts (levelAt FIRST) (system (levelAt FIRST) key (now (h .entry)) (now (x .entry))) (now (t .entry)) (now (q .entry)) (now (delta .entry)) (now (masks .entry)) (now (alpha .entry)) (now (a .entry)) ⌝ }
+    ensures { λ o. ⌜ eqb o 0 ≡ accepts (levelAt FIRST) (system (levelAt FIRST) key (keySlices (now (h .entry)) (now (x .entry)) (now (y .entry)))) (now (t .entry)) (now (q .entry)) (now (delta .entry)) (now (masks .entry)) (now (alpha .entry)) (now (a .entry)) ⌝ }
 {
     let n = key.n;
     let m = key.m;
@@ -104,6 +107,7 @@ fn difference(
         d,
         h,
         x,
+        y,
         t,
         q,
         delta,
@@ -125,6 +129,7 @@ fn work(
     key: Key,
     h: &[u16],
     x: &[u16],
+    y: &[u16],
     t: &[u8],
     q: &[u16],
     delta: &[u16],
@@ -132,8 +137,8 @@ fn work(
     alpha: &[u16],
     a: &[u16],
 ) -> u16
-    requires { ⌜ firstOf (verifyRows (levelAt FIRST) key (now h) (now x) (now t) (now q) (now delta) (now masks) (now alpha) (now a)) ≡ Done ⌝ }
-    ensures { λ o. ⌜ eqb o 0 ≡ accepts (levelAt FIRST) (system (levelAt FIRST) key (now (h .entry)) (now (x .entry))) (now (t .entry)) (now (q .entry)) (now (delta .entry)) (now (masks .entry)) (now (alpha .entry)) (now (a .entry)) ⌝ }
+    requires { ⌜ firstOf (verifyRows (levelAt FIRST) key (keySlices (now h) (now x) (now y)) (now t) (now q) (now delta) (now masks) (now alpha) (now a)) ≡ Done ⌝ }
+    ensures { λ o. ⌜ eqb o 0 ≡ accepts (levelAt FIRST) (system (levelAt FIRST) key (keySlices (now (h .entry)) (now (x .entry)) (now (y .entry)))) (now (t .entry)) (now (q .entry)) (now (delta .entry)) (now (masks .entry)) (now (alpha .entry)) (now (a .entry)) ⌝ }
 {
     let mut beta = [0u16; COLUMNS];
     let mut scaled = [0u16; COLUMNS];
@@ -143,6 +148,7 @@ fn work(
         key,
         h,
         x,
+        y,
         t,
         q,
         delta,
@@ -161,6 +167,7 @@ pub fn verify(
     key: Key,
     h: &[u16],
     x: &[u16],
+    y: &[u16],
     t: &[u8],
     q: &[u16],
     delta: &[u16],
@@ -168,12 +175,12 @@ pub fn verify(
     alpha: &[u16],
     a: &[u16],
 ) -> Verdict
-    ensures outcome { λ o. ⌜ o ≡ verifyOutcome (levelAt FIRST) key (now (h .entry)) (now (x .entry)) (now (t .entry)) (now (q .entry)) (now (delta .entry)) (now (masks .entry)) (now (alpha .entry)) (now (a .entry)) ⌝ }
-    ensures judges { λ o. ⌜ Judges (levelAt FIRST) key (now (h .entry)) (now (x .entry)) (now (t .entry)) (now (q .entry)) (now (delta .entry)) (now (masks .entry)) (now (alpha .entry)) (now (a .entry)) (o ≡ Accepted) (o ≡ Rejected) ⌝ }
+    ensures outcome { λ o. ⌜ o ≡ verifyOutcome (levelAt FIRST) key (keySlices (now (h .entry)) (now (x .entry)) (now (y .entry))) (now (t .entry)) (now (q .entry)) (now (delta .entry)) (now (masks .entry)) (now (alpha .entry)) (now (a .entry)) ⌝ }
+    ensures judges { λ o. ⌜ Judges (levelAt FIRST) key (keySlices (now (h .entry)) (now (x .entry)) (now (y .entry))) (now (t .entry)) (now (q .entry)) (now (delta .entry)) (now (masks .entry)) (now (alpha .entry)) (now (a .entry)) (o ≡ Accepted) (o ≡ Rejected) ⌝ }
 {
-    match refused(key, h, x, t, q, delta, masks, alpha, a) {
+    match refused(key, h, x, y, t, q, delta, masks, alpha, a) {
         Answer::Done => {
-            if work(key, h, x, t, q, delta, masks, alpha, a) == 0 {
+            if work(key, h, x, y, t, q, delta, masks, alpha, a) == 0 {
                 Verdict::Accepted
             } else {
                 Verdict::Rejected

@@ -34,7 +34,7 @@ impl Inputs {
         let mut generator = Generator::new(3);
         let materials = SIZES
             .iter()
-            .map(|&(n, m)| material(Sample::solving(n, m, &mut generator)))
+            .map(|&(n, m)| material(Sample::with_target(n, m, &mut generator)))
             .collect();
         Inputs {
             materials,

@@ -2,7 +2,7 @@
 
 use crate::lent::Lent;
 use crate::named::Named;
-use crate::slices::{H, M, N, X};
+use crate::slices::{H, M, N, X, Y};
 use reference::samples::Generator;
 use reference::{Key, Refusal};
 use std::ops::{Deref, DerefMut};
@@ -24,6 +24,7 @@ impl Taken {
             m: self.numbers[M],
             h: self.words(H),
             x: self.words(X),
+            y: self.words(Y),
         }
     }
 

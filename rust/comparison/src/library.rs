@@ -52,7 +52,7 @@ macro_rules! on_keys {
             $($input: &[$read],)*
             $($output: &mut [$written],)*
         ) -> u32 {
-            let Key { n, m, h, x } = key;
+            let Key { n, m, h, x, y } = key;
             // SAFETY: the slices are valid for their lengths, and no output
             // overlaps another slice.
             unsafe {
@@ -63,6 +63,8 @@ macro_rules! on_keys {
                     h.len(),
                     x.as_ptr(),
                     x.len(),
+                    y.as_ptr(),
+                    y.len(),
                     $($input.as_ptr(), $input.len(),)*
                     $($output.as_mut_ptr(), $output.len(),)*
                 )

@@ -16,6 +16,8 @@ pub const M: &str = "m";
 pub const H: &str = "h";
 /// The vector x.
 pub const X: &str = "x";
+/// The target y.
+pub const Y: &str = "y";
 /// The positions.
 pub const POSITIONS: &str = "positions";
 /// The mask bits u.
@@ -44,12 +46,13 @@ pub const POLYNOMIALS: &str = "polynomials";
 pub const VALUES: &str = "values";
 
 /// The slices of a key, in the order in which they are lent.
-pub const KEY: &[&str] = &[H, X];
+pub const KEY: &[&str] = &[H, X, Y];
 
 /// All slices.
 const SLICES: &[Slice] = &[
     slice(H, Elements::Key, Sizes::h_words),
     slice(X, Elements::Key, Sizes::x_words),
+    slice(Y, Elements::Key, Sizes::y_words),
     slice(POSITIONS, Elements::Positions, Sizes::position_bytes),
     slice(U, Elements::Bits, Sizes::bit_bytes),
     slice(V, Elements::Coordinates, Sizes::correlation_words),
@@ -123,11 +126,15 @@ pub fn named(name: &str) -> Slice {
 
 impl Slice {
     /// A slice of its stated length, whose words or bits are of this kind. No
-    /// refusal applies to it. H has rows that do not depend on each other.
+    /// refusal applies to it. H has rows that do not depend on each other; about
+    /// every other random y is all zero.
     pub fn of_kind(self, kind: Kind, sizes: Sizes, generator: &mut Generator) -> Lent {
         let len = (self.length)(sizes);
         match self.name {
             H => Lent::with_words(&kind.rows(sizes, None, generator), generator),
+            Y if kind == Kind::Random && generator.below(2) == 0 => {
+                self.of_length(len, Kind::Zero, sizes.d, generator)
+            }
             DELTA => Lent::with_words(&kind.challenge(generator), generator),
             _ => self.of_length(len, kind, sizes.d, generator),
         }

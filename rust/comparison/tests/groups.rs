@@ -6,9 +6,11 @@ mod common;
 use common::{case, entry, passes, right, ALL, INPUT};
 use comparison::case::{decided, Case, Entry, Group, Least, Rows, Table};
 use comparison::entries::check;
+use comparison::entries::files::damage::harmless;
 use comparison::entries::files::faults::{faulty, other_length, spots};
 use comparison::entries::files::fields::{
-    any_fields, any_serial, content_of, serial_field, serials_about_powers, set_serial,
+    any_fields, any_serial, both_forms, content_of, may_come_next, serial_field,
+    serials_about_powers, set_serial,
 };
 use comparison::entries::readers::ReadCheckFile;
 use comparison::entries::{constraints, faults, keyed};
@@ -16,7 +18,7 @@ use comparison::kinds::Kind;
 use comparison::named::Named;
 use comparison::run::Run;
 use comparison::slices::{H, M, N};
-use reference::package::{join, tag};
+use reference::package::{index_of, join, tag, WrittenField};
 use reference::samples::{independent, Generator};
 use reference::Refusal;
 
@@ -160,6 +162,7 @@ fn with_equal_rows(generator: &mut Generator) -> Case {
 fn constraints_with(groups: fn() -> Vec<Group>) -> Entry {
     Entry {
         refusals: &[],
+        table: None,
         least: Vec::new,
         groups,
         ..constraints::CONSTRAINTS
@@ -226,11 +229,61 @@ fn the_list_of_an_entry_decides() {
 #[test]
 fn every_fault_of_a_file_has_its_answer() {
     let generator = &mut Generator::new(1);
-    let fields = any_fields(3, 2, generator);
-    for spot in spots::<ReadCheckFile>(&fields) {
-        let (bytes, number) = faulty::<ReadCheckFile>(&fields, &[spot], generator);
-        let found = reference::read_check_file(&bytes);
-        assert_eq!(found.map_err(Refusal::number).err(), Some(number));
+    for fields in both_forms(3, 2, generator) {
+        for spot in spots::<ReadCheckFile>(&fields).repeat(20) {
+            let (bytes, number) = faulty::<ReadCheckFile>(&fields, &[spot], generator);
+            let found = reference::read_check_file(&bytes);
+            let found = found.map_err(Refusal::number).err();
+            assert_eq!(found, Some(number), "{spot:?}");
+        }
+    }
+}
+
+#[test]
+fn files_with_and_without_a_target() {
+    let generator = &mut Generator::new(1);
+    let has_y = |fields: &[WrittenField]| fields.iter().any(|field| field.tag == tag::Y);
+    let files: Vec<_> = (0..400).map(|_| any_fields(4, 2, generator)).collect();
+    let count = files.iter().filter(|fields| has_y(fields)).count();
+    assert!((130..270).contains(&count), "{count} with y");
+    for _ in 0..100 {
+        let forms = both_forms(3, 1, generator);
+        assert_eq!(forms.each_ref().map(|fields| has_y(fields)), [false, true]);
+        for fields in forms {
+            assert!(reference::read_check_file(&join(&fields)).is_ok());
+        }
+    }
+}
+
+#[test]
+fn tags_that_may_come_next() {
+    let generator = &mut Generator::new(1);
+    let [without, with] = both_forms(3, 2, generator);
+    for (fields, both) in [(&without, &[tag::SERIAL][..]), (&with, &[tag::Y])] {
+        for (index, field) in fields.iter().enumerate() {
+            let next: Vec<u8> = (0..=255)
+                .filter(|&tag| may_come_next(fields, index, tag))
+                .collect();
+            match both.contains(&field.tag) {
+                true => assert_eq!(next, [tag::Y, tag::SERIAL]),
+                false => assert_eq!(next, [field.tag]),
+            }
+        }
+    }
+}
+
+#[test]
+fn a_changed_target_is_right() {
+    let generator = &mut Generator::new(1);
+    for _ in 0..200 {
+        let [_, fields] = both_forms(2, 1, generator);
+        let (other, _) = check::changed(&fields, tag::Y, generator);
+        assert_ne!(content_of(&other, tag::Y), content_of(&fields, tag::Y));
+        assert!(reference::read_check_file(&join(&other)).is_ok());
+        let mut other = fields.clone();
+        let index = index_of(&other, tag::Y);
+        harmless(&mut other, index, generator);
+        assert!(reference::read_check_file(&join(&other)).is_ok());
     }
 }
 

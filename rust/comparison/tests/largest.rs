@@ -25,6 +25,7 @@ fn only_largest<E: InRounds>() -> Vec<Group> {
 fn with_library(entry: Entry, library: Call, groups: fn() -> Vec<Group>) -> Entry {
     Entry {
         refusals: &[],
+        table: None,
         least: Vec::new,
         library,
         groups,

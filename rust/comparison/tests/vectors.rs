@@ -148,6 +148,7 @@ const INPUTS: &[&str] = &[
     "serial",
     "h",
     "x",
+    "y",
     "positions",
     "u",
     "v",
@@ -180,6 +181,28 @@ fn every_word_altered() {
             }
         }
     }
+}
+
+#[test]
+fn every_element_of_y_altered() {
+    let mut targets = 0;
+    for (name, m) in [("n02_m01.txt", 1), ("n05_m02.txt", 2), ("n08_m03.txt", 3)] {
+        let content = text(name);
+        let index = content.lines().position(|line| line.starts_with("y "));
+        let index = index.expect("a line of y");
+        let line = content.lines().nth(index).expect("this line");
+        for word in 1..=m {
+            let other = with_line(&content, index, &altered(line, word));
+            assert!(difference(name, &other).is_some(), "{name}, {word}");
+        }
+        // With a target the file has a field, and without one it has none.
+        let zeros = format!("y{}", " 0000".repeat(m));
+        let target = line != zeros;
+        targets += usize::from(target);
+        let found = difference(name, &with_line(&content, index, &zeros));
+        assert_eq!(found.is_some(), target, "{name}");
+    }
+    assert_eq!(targets, 1);
 }
 
 #[test]
@@ -304,7 +327,7 @@ fn wrong_line_of_the_program() {
     };
     let content = text(name);
     let outcome = compare(&setting, name, content.as_bytes(), &mut Generator::new(1));
-    let place = "line, line 31, word 6: perkcheck prints";
+    let place = "line, line 32, word 6: perkcheck prints";
     let found = outcome.difference.unwrap_or_default();
     assert!(found.starts_with(place), "{found}");
 }

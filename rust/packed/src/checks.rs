@@ -62,7 +62,8 @@ pub struct Slices<'a> {
 pub fn keyed<'a>(key: Key<'a>, slices: Slices) -> Result<Within<'a>, Refusal> {
     let sizes = key.sizes()?;
     key.judge_lengths(sizes, slices.lent)?;
-    unless(above(key.h) || above(key.x), Refusal::KeyElement)?;
+    let mut words = [key.h, key.x, key.y].into_iter();
+    unless(words.any(above), Refusal::KeyElement)?;
     unless(longer(slices.bits, 1), Refusal::Bit)?;
     let mut elements = slices.elements.iter();
     unless(elements.any(|words| above(words)), Refusal::Coordinate)?;

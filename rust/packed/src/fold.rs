@@ -14,6 +14,9 @@ struct Weights {
     entries: [Element; COLUMNS],
     /// The vector x, zero from n on.
     x: [u64; COLUMNS],
+    /// That of X^d: the sum of those of the columns, and of y(e) times that of
+    /// row e of H.
+    target: Element,
 }
 
 impl Weights {
@@ -23,14 +26,17 @@ impl Weights {
             columns: [ZERO; COLUMNS],
             entries: [ZERO; COLUMNS],
             x: [0; COLUMNS],
+            target: ZERO,
         };
-        let Key { n, m, h, x } = key.key;
+        let Key { n, m, h, x, y } = key.key;
         for (j, &entry) in x.iter().enumerate() {
             weights.columns[j] = load(alpha, j);
+            weights.target = plus(weights.target, weights.columns[j]);
             weights.x[j] = u64::from(entry);
         }
         for e in 0..m {
             let multiples = Multiples::of(load(alpha, n + e));
+            weights.target = plus(weights.target, multiples.scaled(u64::from(y[e])));
             for i in 0..n {
                 let term = multiples.scaled(u64::from(h[e * n + i]));
                 weights.entries[i] = plus(weights.entries[i], term);
@@ -107,8 +113,7 @@ pub fn values(key: Within, t: &[u8], q: &[u16], delta: &Multiples, alpha: &[u16]
         }
         total = plus(total, work[0]);
     }
-    let columns = weights.columns.into_iter().fold(ZERO, plus);
-    let power = (0..d).fold(columns, |power, _| delta.times(&power));
+    let power = (0..d).fold(weights.target, |power, _| delta.times(&power));
     plus(total, power)
 }
 

@@ -23,11 +23,11 @@ pub struct Within<'a> {
     pub d: usize,
 }
 
-impl Within<'_> {
+impl<'a> Within<'a> {
     /// Adds row i's share to the n + m sums of `size` coefficients each. The
     /// row's products stand in `work`.
     fn share(self, sums: &mut [Element], work: &[Element], size: usize, i: usize) {
-        let Key { n, m, h, x } = self.key;
+        let Key { n, m, h, x, .. } = self.key;
         let columns = size * n;
         for (sum, &product) in sums.iter_mut().zip(&work[..columns]) {
             *sum = plus(*sum, product);
@@ -43,6 +43,20 @@ impl Within<'_> {
                 let factor = u64::from(h[e * n + i]);
                 *sum = plus(*sum, multiples.scaled(factor));
             }
+        }
+    }
+
+    /// The factors of the power d in the n + m sums: one for each column, then y.
+    fn targets(self) -> impl Iterator<Item = u64> + 'a {
+        let Key { n, y, .. } = self.key;
+        let columns = std::iter::repeat_n(1, n);
+        columns.chain(y.iter().map(|&y| u64::from(y)))
+    }
+
+    /// Adds them to the tops of the sums.
+    fn add_targets<'t>(self, tops: impl Iterator<Item = &'t mut Element>) {
+        for (top, target) in tops.zip(self.targets()) {
+            top[0] ^= target;
         }
     }
 
@@ -72,9 +86,7 @@ impl Within<'_> {
             }
             self.share(sums, &work, size, i);
         }
-        for j in 0..self.key.n {
-            sums[size * j + self.d][0] ^= 1;
-        }
+        self.add_targets(sums.iter_mut().skip(self.d).step_by(size));
     }
 
     /// The top coefficients of the polynomials, made of the digits alone.
@@ -92,9 +104,7 @@ impl Within<'_> {
             }
             self.share(sums, &work, 1, i);
         }
-        for sum in &mut sums[..self.key.n] {
-            sum[0] ^= 1;
-        }
+        self.add_targets(sums.iter_mut());
     }
 
     /// The values.
@@ -117,9 +127,9 @@ impl Within<'_> {
             self.share(sums, &work, 1, i);
         }
         let multiples = Multiples::of(delta);
-        let power = (0..self.d).fold(ONE, |power, _| multiples.times(&power));
-        for sum in &mut sums[..self.key.n] {
-            *sum = plus(*sum, power);
+        let power = Multiples::of((0..self.d).fold(ONE, |power, _| multiples.times(&power)));
+        for (sum, target) in sums.iter_mut().zip(self.targets()) {
+            *sum = plus(*sum, power.scaled(target));
         }
     }
 

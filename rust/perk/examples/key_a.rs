@@ -26,6 +26,7 @@ fn main() -> Result<(), Box<dyn Error>> {
         m: 1,
         h: &[2, 1],
         x: &[1, 2],
+        y: &[0], // no target
     };
 
     // the prover's part

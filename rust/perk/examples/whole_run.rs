@@ -1,5 +1,6 @@
-//! A whole run at n = 64, m = 27: makes a key that a secret order solves, proves
-//! it, writes the check file, checks it, and reads its fields back.
+//! A whole run at n = 64, m = 27: makes a key with a target that a secret order
+//! solves, proves it, writes the check file, checks it, and reads its fields
+//! back.
 //!
 //!     cd rust && cargo run -p perk --example whole_run
 //!
@@ -51,29 +52,27 @@ fn times(a: u16, b: u16) -> u16 {
     product
 }
 
-/// 1 / a in F, for a other than 0: a to the power 2^11 - 2.
-fn inverse(a: u16) -> u16 {
-    (1..2047).fold(1, |power, _| times(power, a))
-}
-
 /// The m rows of H. Among the first m columns row e has a 1 in column e and 0 in
 /// the others, so the rows do not depend on each other. The entries after these
-/// are random, but for the last, which makes the row times `ordered` zero.
-fn rows_for(ordered: &[u16], random: &mut Generator) -> Vec<u16> {
-    let last = inverse(ordered[N - 1]);
+/// are random.
+fn rows(random: &mut Generator) -> Vec<u16> {
     let mut h = Vec::new();
     for e in 0..M {
         let mut row = vec![0; M];
         row[e] = 1;
-        row.extend(random.words(N - M - 1));
-        let sum = row
-            .iter()
-            .zip(ordered)
-            .fold(0, |s, (h, x)| s ^ times(*h, *x));
-        row.push(times(sum, last));
+        row.extend(random.words(N - M));
         h.extend(row);
     }
     h
+}
+
+/// H times x in the order of the positions: the target y.
+fn target(h: &[u16], ordered: &[u16]) -> Vec<u16> {
+    let product = |row: &[u16]| {
+        let entries = row.iter().zip(ordered);
+        entries.fold(0, |sum, (h, x)| sum ^ times(*h, *x))
+    };
+    h.chunks(N).map(product).collect()
 }
 
 /// a delta + b in K.
@@ -114,7 +113,7 @@ fn said(file: &[u8]) -> String {
 fn main() -> Result<(), Refusal> {
     let random = &mut Generator(2025);
 
-    // the key: x has different entries, none of them 0, and H is made for the
+    // the key: x has different entries, none of them 0, and y is made for the
     // secret order
     let mut x = Vec::new();
     while x.len() < N {
@@ -128,12 +127,14 @@ fn main() -> Result<(), Refusal> {
         positions.swap(i, random.below(i as u16 + 1).into());
     }
     let ordered: Vec<u16> = positions.iter().map(|i| x[usize::from(*i)]).collect();
-    let h = rows_for(&ordered, random);
+    let h = rows(random);
+    let y = target(&h, &ordered);
     let key = Key {
         n: N,
         m: M,
         h: &h,
         x: &x,
+        y: &y,
     };
 
     // the prover's part
@@ -184,6 +185,7 @@ fn main() -> Result<(), Refusal> {
         field(0x01, &[N as u8, M as u8]),
         field(0x02, &bytes(&h)),
         field(0x03, &bytes(&x)),
+        field(0x04, &bytes(&y)), // left out where y is all zero
         field(0x05, &serial_bytes(SERIAL)),
         field(0x06, &t),
         field(0x07, &bytes(&a)),
@@ -203,11 +205,15 @@ fn main() -> Result<(), Refusal> {
         "package of {} bytes: serial {serial} n {n} m {m}",
         package.len()
     );
+    assert_eq!(perk::field(package, 0x04), bytes(&y));
     assert_eq!(perk::field(package, 0x05), SERIAL.to_be_bytes());
     assert_eq!(perk::field(package, 0x06), t);
     assert_eq!(perk::field(package, 0x07), bytes(&a));
 
-    // one byte changed: the last of a, and the first of the file
+    // one byte changed: the last of y, the last of a, and the first of the file
+    let mut changed = file.clone();
+    changed[5 + 3 + 2 * M * N + 3 + 2 * N + 3 + 2 * M - 1] ^= 1;
+    println!("last byte of y changed: {}", said(&changed));
     let mut changed = file.clone();
     changed[package.len() - 1] ^= 1;
     println!("last byte of a changed: {}", said(&changed));

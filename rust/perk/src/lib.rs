@@ -26,7 +26,7 @@
 //!
 //! Position i says which entry of x becomes entry i of x': x'(i) = x(position i).
 //! Positions solve a key when they are 0 to n - 1, each once, and H times x' is
-//! zero.
+//! the target y. A key without a target has m zeros as y.
 //!
 //! # Refusals and verdicts
 //!
@@ -56,7 +56,7 @@
 //! // an element of F, as an element of K
 //! let k = |f: u16| [f, 0, 0, 0, 0, 0, 0, 0, 0, 0, 0, 0];
 //!
-//! let key = Key { n: 2, m: 1, h: &[2, 1], x: &[1, 2] };
+//! let key = Key { n: 2, m: 1, h: &[2, 1], x: &[1, 2], y: &[0] };
 //! let prover = Prover { positions: &[0, 1], u: &[1, 0], v: &[k(1), k(4)].concat() };
 //! let masks = Masks { r: &[], s: &[] };
 //! let alpha = [k(1), k(2), k(1)].concat();
@@ -74,7 +74,7 @@
 //!
 //! # fn main() -> Result<(), perk::Refusal> {
 //! # let k = |f: u16| [f, 0, 0, 0, 0, 0, 0, 0, 0, 0, 0, 0];
-//! let key = Key { n: 2, m: 1, h: &[2, 1], x: &[1, 2] };
+//! let key = Key { n: 2, m: 1, h: &[2, 1], x: &[1, 2], y: &[0] };
 //! let (t, a) = ([1, 1], k(5));
 //! let (q, delta) = ([k(3), k(4)].concat(), k(2));
 //! let alpha = [k(1), k(2), k(1)].concat();
@@ -113,7 +113,7 @@
 //!
 //! # fn main() -> Result<(), perk::Refusal> {
 //! # let k = |f: u16| [f, 0, 0, 0, 0, 0, 0, 0, 0, 0, 0, 0];
-//! let key = Key { n: 2, m: 1, h: &[2, 1], x: &[1, 2] };
+//! let key = Key { n: 2, m: 1, h: &[2, 1], x: &[1, 2], y: &[0] };
 //! let prover = Prover { positions: &[0, 1], u: &[1, 0], v: &[k(1), k(4)].concat() };
 //! // three polynomials of two coefficients: 5, 5 and 10, with tops 0
 //! let (mut t, mut polynomials) = ([0; 2], [0; WORDS * 3 * 2]);
@@ -153,7 +153,7 @@ macro_rules! call {
         }
     };
     ($function:ident $key:ident ($($read:expr),*) ($($written:expr),*)) => {
-        call!($function ($key.n, $key.m) ($key.h, $key.x, $($read),*) ($($written),*))
+        call!($function ($key.n, $key.m) ($key.h, $key.x, $key.y, $($read),*) ($($written),*))
     };
 }
 
@@ -186,6 +186,9 @@ pub struct Key<'a> {
     pub h: &'a [u16],
     /// x: n words, n elements of F.
     pub x: &'a [u16],
+    /// y, the target: m words, m elements of F. H times x in the order of the
+    /// positions must equal it. A key without a target has m zeros.
+    pub y: &'a [u16],
 }
 
 /// What the prover holds for a key. All of it is secret, so it is not printed
@@ -252,8 +255,8 @@ pub fn product(a: &[u16], b: &[u16], out: &mut [u16]) -> Result<(), Refusal> {
 /// # Errors
 ///
 /// In this order: [`Refusal::SizeN`], [`Refusal::SizeM`],
-/// [`Refusal::SliceLength`] (all seven slices), [`Refusal::KeyElement`] (`h`,
-/// `x`), [`Refusal::Bit`] (`u`), [`Refusal::Coordinate`] (`v`),
+/// [`Refusal::SliceLength`] (all eight slices), [`Refusal::KeyElement`] (`h`,
+/// `x`, `y`), [`Refusal::Bit`] (`u`), [`Refusal::Coordinate`] (`v`),
 /// [`Refusal::Position`].
 pub fn constraints(
     key: Key<'_>,
@@ -275,8 +278,8 @@ pub fn constraints(
 /// # Errors
 ///
 /// In this order: [`Refusal::SizeN`], [`Refusal::SizeM`],
-/// [`Refusal::SliceLength`] (all six slices), [`Refusal::KeyElement`] (`h`,
-/// `x`), [`Refusal::Bit`] (`t`), [`Refusal::Coordinate`] (`q`, `delta`).
+/// [`Refusal::SliceLength`] (all seven slices), [`Refusal::KeyElement`] (`h`,
+/// `x`, `y`), [`Refusal::Bit`] (`t`), [`Refusal::Coordinate`] (`q`, `delta`).
 pub fn values(
     key: Key<'_>,
     t: &[u8],
@@ -309,8 +312,8 @@ pub fn values(
 /// # Errors
 ///
 /// In this order: [`Refusal::SizeN`], [`Refusal::SizeM`],
-/// [`Refusal::SliceLength`] (all ten slices), [`Refusal::KeyElement`] (`h`,
-/// `x`), [`Refusal::Bit`] (`u`), [`Refusal::Coordinate`] (`v`, `r`, `s`,
+/// [`Refusal::SliceLength`] (all eleven slices), [`Refusal::KeyElement`] (`h`,
+/// `x`, `y`), [`Refusal::Bit`] (`u`), [`Refusal::Coordinate`] (`v`, `r`, `s`,
 /// `alpha`), [`Refusal::Position`], and then [`Refusal::TopCoefficient`], found
 /// before anything is written, whatever the weights are.
 pub fn prove(
@@ -347,9 +350,9 @@ pub fn prove(
 /// # Errors
 ///
 /// In this order: [`Refusal::SizeN`], [`Refusal::SizeM`],
-/// [`Refusal::SliceLength`] (all eight slices), [`Refusal::KeyElement`] (`h`,
-/// `x`), [`Refusal::Bit`] (`t`), [`Refusal::Coordinate`] (`q`, `delta`, `masks`,
-/// `alpha`, `a`).
+/// [`Refusal::SliceLength`] (all nine slices), [`Refusal::KeyElement`] (`h`,
+/// `x`, `y`), [`Refusal::Bit`] (`t`), [`Refusal::Coordinate`] (`q`, `delta`,
+/// `masks`, `alpha`, `a`).
 pub fn verify(
     key: Key<'_>,
     t: &[u8],

@@ -39,19 +39,21 @@ fn read(reader: Reader, bytes: &[u8]) -> Result<Contents, Refusal> {
 ///
 /// A field is a tag of one byte, a length of two bytes and the content; numbers
 /// are highest byte first, and tags are hexadecimal. A package has exactly these
-/// fields, in this order:
+/// fields, in this order, where 04 may be absent:
 ///
 /// | Tag | Content | Bytes |
 /// |---|---|---|
 /// | 01 | n, m | 2 |
 /// | 02 | H | 2 m n |
 /// | 03 | x | 2 n |
+/// | 04 | y, not all zero | 2 m |
 /// | 05 | the serial, 0 to 4294967295 | 2 or 4 |
 /// | 06 | t | n d |
 /// | 07 | a | 24 d |
 ///
-/// A serial takes two bytes where it fits them, up to 65535, and four otherwise.
-/// It has no other form, and so no package has two.
+/// Where 04 is absent y is all zero, and only then: a package without a target
+/// has no 04. A serial takes two bytes where it fits them, up to 65535, and four
+/// otherwise. Neither has another form, and so no package has two.
 ///
 /// # Errors
 ///
@@ -63,10 +65,12 @@ fn read(reader: Reader, bytes: &[u8]) -> Result<Contents, Refusal> {
 /// - [`Refusal::FieldLength`], where the length is not one stated above;
 /// - [`Refusal::BytesMissing`], where fewer bytes remain than the length;
 /// - of the content [`Refusal::SizeN`] and [`Refusal::SizeM`] (01),
-///   [`Refusal::KeyElement`] (02, 03), [`Refusal::LongSerial`] (05),
-///   [`Refusal::Bit`] (06), [`Refusal::Coordinate`] (07).
+///   [`Refusal::KeyElement`] (02, 03, 04), [`Refusal::ZeroTarget`] (04),
+///   [`Refusal::LongSerial`] (05), [`Refusal::Bit`] (06),
+///   [`Refusal::Coordinate`] (07).
 ///
-/// After the last field [`Refusal::BytesFollow`].
+/// After the last field [`Refusal::BytesFollow`]. Field 04 is read where the byte
+/// after 03 is 04, and otherwise 05 comes next.
 pub fn read_package(bytes: &[u8]) -> Result<Contents, Refusal> {
     read(c::perk_read_package, bytes)
 }
@@ -83,7 +87,7 @@ pub fn read_package(bytes: &[u8]) -> Result<Contents, Refusal> {
 ///
 /// # Errors
 ///
-/// Those of [`read_package`] in the same order, for all ten fields in turn, with
+/// Those of [`read_package`] in the same order, for all fields in turn, with
 /// [`Refusal::Coordinate`] for the content of the last four. After the last
 /// field [`Refusal::BytesFollow`].
 pub fn read_check_file(bytes: &[u8]) -> Result<Contents, Refusal> {
@@ -110,8 +114,9 @@ pub fn package_of(check_file: &[u8]) -> Result<&[u8], Refusal> {
 }
 
 /// The content of the field with this tag in a package: the caller's own bytes.
-/// It is empty for a package that [`read_package`] refuses, and for a tag that a
-/// package does not have; no field of a package is empty. It tells no refusal.
+/// It is empty for a package that [`read_package`] refuses, and for a tag that the
+/// package does not have, as 04 where y is all zero; no field of a package is
+/// empty. It tells no refusal.
 ///
 /// A check file is no package; [`package_of`] finds the one that it begins with.
 pub fn field(bytes: &[u8], tag: u8) -> &[u8] {
@@ -124,7 +129,8 @@ pub fn field(bytes: &[u8], tag: u8) -> &[u8] {
 }
 
 /// Whether the proof in a check file is accepted: as [`verify`](crate::verify)
-/// decides for its key, t, q, delta, mask numbers, alpha and a. Accepted means
+/// decides for its key, t, q, delta, mask numbers, alpha and a, with m zeros as y
+/// where field 04 is absent. Accepted means
 /// only that the equation of `verify` holds; the serial is not part of it.
 ///
 /// # Errors

@@ -18,7 +18,7 @@ pub enum Refusal {
     /// 3: a slice is not of its stated length. This is decided before any slice
     /// is read, which is tested.
     SliceLength = 3,
-    /// 4: an element of H or x is above 2047.
+    /// 4: an element of H, x or y is above 2047.
     KeyElement = 4,
     /// 5: a byte of u or t is above 1.
     Bit = 5,
@@ -38,13 +38,15 @@ pub enum Refusal {
     FieldLength = 11,
     /// 12: bytes follow the last field.
     BytesFollow = 12,
+    /// 14: the field 04 of a file is present, and all its elements are zero.
+    ZeroTarget = 14,
     /// 19: a serial of four bytes is below 65536, so that it fits two.
     LongSerial = 19,
 }
 
 impl Refusal {
     /// All refusals, in the order of their numbers.
-    pub const ALL: [Refusal; 13] = [
+    pub const ALL: [Refusal; 14] = [
         Refusal::SizeN,
         Refusal::SizeM,
         Refusal::SliceLength,
@@ -57,10 +59,11 @@ impl Refusal {
         Refusal::Tag,
         Refusal::FieldLength,
         Refusal::BytesFollow,
+        Refusal::ZeroTarget,
         Refusal::LongSerial,
     ];
 
-    /// Its number, 1 to 12 or 19, which the C function returns.
+    /// Its number, 1 to 12, 14 or 19, which the C function returns.
     pub const fn number(self) -> u32 {
         self as u32
     }
@@ -85,7 +88,7 @@ impl fmt::Display for Refusal {
             Refusal::SizeN => "n is below 2 or above 64",
             Refusal::SizeM => "m is 0, or at least n",
             Refusal::SliceLength => "a slice is not of its stated length",
-            Refusal::KeyElement => "an element of H or x is above 2047",
+            Refusal::KeyElement => "an element of H, x or y is above 2047",
             Refusal::Bit => "a byte of u or t is above 1",
             Refusal::Coordinate => "a coordinate of an element of K is above 2047",
             Refusal::Position => "a position is 2^d or more",
@@ -96,6 +99,7 @@ impl fmt::Display for Refusal {
             Refusal::Tag => "a tag is not the one that comes next",
             Refusal::FieldLength => "a field's length is not one stated for it",
             Refusal::BytesFollow => "bytes follow the last field",
+            Refusal::ZeroTarget => "field 04 is present and all its elements are zero",
             Refusal::LongSerial => "a serial of four bytes is below 65536, so that it fits two",
         })
     }

@@ -145,6 +145,59 @@ fn three_verify() {
 }
 
 #[test]
+fn key_a_with_a_target() {
+    let mut case = Case::key_a_with_target();
+    assert_eq!(case.constraints(), Ok(()));
+    assert_eq!(case.t_out, [0, 0]);
+    assert_eq!(case.polynomials, words(&[5, 0, 5, 0, 10, 0]));
+    assert_eq!(case.values(), Ok(()));
+    assert_eq!(case.values, words(&[5, 5, 10]));
+    assert_eq!(case.prove(), Ok(()));
+    assert_eq!(case.a_out, words(&[5]));
+    assert_eq!(case.verify(), Ok(Verdict::Accepted));
+    // without the target, or with another one, the same order does not solve
+    // the key, and the proof is rejected
+    for y in [0, 4, 2047] {
+        let mut case = Case {
+            y: vec![y],
+            ..Case::key_a_with_target()
+        };
+        assert_eq!(case.prove(), Err(TopCoefficient));
+        assert!(case.nothing_written());
+        assert_eq!(case.constraints(), Ok(()));
+        assert_eq!(case.tops(), [0, 0, 5 ^ y]);
+        assert_eq!(case.verify(), Ok(Verdict::Rejected));
+    }
+    // the order that solves key A without a target
+    let mut case = Case {
+        y: vec![5],
+        ..Case::key_a()
+    };
+    assert_eq!(case.prove(), Err(TopCoefficient));
+    assert!(case.nothing_written());
+    assert_eq!(case.verify(), Ok(Verdict::Rejected));
+}
+
+// f is 4 X + 4 X = 0, so a is the mask. At 2 polynomial 3 is 8, the weighted sum is
+// 8 + 8 = 0, and a is 8 + 32 = 40, the mask number.
+#[test]
+fn three_with_a_target() {
+    let mut case = Case::three_with_target();
+    assert_eq!(case.constraints(), Ok(()));
+    assert_eq!(
+        case.polynomials,
+        words(&[0, 0, 0, 0, 1, 0, 0, 0, 0, 0, 4, 0])
+    );
+    assert_eq!(case.values(), Ok(()));
+    assert_eq!(case.values, words(&[0, 2, 0, 8]));
+    assert_eq!(case.prove(), Ok(()));
+    assert_eq!(case.a_out, words(&[8, 16]));
+    assert_eq!(case.verify(), Ok(Verdict::Accepted));
+    case.y = vec![7];
+    assert_eq!(case.verify(), Ok(Verdict::Rejected));
+}
+
+#[test]
 fn r_and_s_are_not_exchanged() {
     let mut case = Case::three();
     (case.r, case.s) = (case.s, case.r);
@@ -178,9 +231,10 @@ fn the_limit_2047_passes() {
     let mut case = Case::key_a();
     case.v[23] = 2047;
     assert_eq!(case.prove(), Ok(()));
-    let largest: [fn(&mut Case); 6] = [
+    let largest: [fn(&mut Case); 7] = [
         |case| case.h[0] = 2047,
         |case| case.x[0] = 2047,
+        |case| case.y[0] = 2047,
         |case| case.q[0] = 2047,
         |case| case.delta[0] = 2047,
         |case| case.alpha[0] = 2047,

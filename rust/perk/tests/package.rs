@@ -124,7 +124,7 @@ fn a_package_begins_its_check_file() {
     assert_eq!(found.as_ptr(), file.as_ptr());
     let largest = include_bytes!("../../../crates/perkcheck_cases/data/largest");
     let found = package_of(largest).expect("an accepted check file");
-    assert_eq!(found.len(), 18 + 2 + 8064 + 128 + 4 + 64 * 6 + 24 * 6);
+    assert_eq!(found.len(), 21 + 2 + 8064 + 128 + 126 + 4 + 64 * 6 + 24 * 6);
     assert_eq!(read_package(found), read_check_file(largest));
 }
 
@@ -232,7 +232,8 @@ fn a_small_serial_in_four_bytes() {
         refused(&[(0x05, text), (0x03, "03 0004 0001 0800")], 4);
         refused(&[(0x05, text), (0x03, "ff 0004 0001 0002")], 10);
         refused(&[(0x05, text), (0x03, "03 0005 0001 0002")], 11);
-        refused(&[(0x05, &format!("04 0004 0000 {serial}"))], 10);
+        refused(&[(0x05, &format!("08 0004 0000 {serial}"))], 10);
+        refused(&[(0x05, &format!("04 0004 0000 {serial}"))], 11);
         for length in ["0000", "0001", "0003", "0005", "0104", "0204", "0400"] {
             refused(&[(0x05, &format!("05 {length} 0000 {serial}"))], 11);
         }
@@ -268,6 +269,153 @@ fn other_lengths_of_a_serial() {
     refused(&[(0x05, "05 0002 0001 0000")], 10);
 }
 
+/// Key A's fields with y after x, and t = 0 0: the positions 1 0 solve key A with
+/// the target 5.
+fn with_target<'a>(x_and_y: &'a str, replaced: &Replaced<'a>) -> Vec<(u8, &'a str)> {
+    let mut fields = vec![(0x03, x_and_y), (0x06, "06 0002 0000")];
+    fields.extend(replaced);
+    fields
+}
+
+/// x of key A, followed by a field of y.
+fn x_and(y: &str) -> String {
+    format!("{}{y}", of_key_a(0x03))
+}
+
+#[test]
+fn a_target_is_read_and_counts() {
+    for (y, verdict) in [
+        ("04 0002 0005", Verdict::Accepted),
+        ("04 0002 0004", Verdict::Rejected),
+        ("04 0002 0100", Verdict::Rejected),
+        ("04 0002 0001", Verdict::Rejected),
+        ("04 0002 07ff", Verdict::Rejected),
+        ("", Verdict::Rejected),
+    ] {
+        let x_and_y = x_and(y);
+        let fields = with_target(&x_and_y, &[]);
+        let file = check_file(&fields);
+        assert_eq!(read_check_file(&file), Ok(KEY_A));
+        assert_eq!(check(&file), Ok(verdict), "{y}");
+        let package = package(&fields);
+        assert_eq!(package_of(&file), Ok(&package[..]));
+        assert_eq!(read_package(&package), Ok(KEY_A));
+        assert_eq!(field(&package, 0x04), bytes(y).get(3..).unwrap_or_default());
+        // the fields about it stand before and after
+        assert_eq!(field(&package, 0x03), &bytes(of_key_a(0x03))[3..]);
+        assert_eq!(field(&package, 0x05), &bytes(of_key_a(0x05))[3..]);
+    }
+    // key A's own proof is rejected with a target
+    let file = check_file(&[(0x03, &x_and("04 0002 0005"))]);
+    assert_eq!(check(&file), Ok(Verdict::Rejected));
+}
+
+#[test]
+fn a_target_that_is_refused() {
+    for (y, number) in [
+        ("04 0002 0000", 14),
+        ("04 0002 0800", 4),
+        ("04 0002 ffff", 4),
+        ("04 0000", 11),
+        ("04 0001 05", 11),
+        ("04 0004 0001 0002", 11),
+        ("04 0200 0005", 11),
+        // twice
+        ("04 0002 0005 04 0002 0005", 10),
+        ("04 0002 0000 04 0002 0005", 14),
+    ] {
+        let x_and_y = x_and(y);
+        refused(&with_target(&x_and_y, &[]), number);
+        // a later field, and bytes that follow, decide nothing
+        for later in [
+            "ff 0002 0007",
+            "05 0003 0007",
+            "05 0004 0000 0007",
+            "",
+            "05",
+        ] {
+            refused(&with_target(&x_and_y, &[(0x05, later)]), number);
+        }
+        let file = check_file(&with_target(&x_and_y, &[]));
+        check_file_refused(&[&file[..], &[0]].concat(), number);
+        // an earlier field does
+        refused(&with_target(&x_and_y, &[(0x01, "01 0002 0101")]), 1);
+        refused(&with_target(&x_and_y, &[(0x02, "02 0004 0800 0001")]), 4);
+        refused(&[(0x03, &format!("03 0004 0001 0800 {y}"))], 4);
+        refused(&[(0x03, &format!("03 0005 0001 0002 {y}"))], 11);
+    }
+}
+
+// After x the next tag is 04 or 05, and 04 is in no other place.
+#[test]
+fn a_target_in_another_place() {
+    let y = "04 0002 0005";
+    for before in [0x01, 0x02, 0x03, 0x06, 0x07] {
+        let text = format!("{y} {}", of_key_a(before));
+        refused(&[(before, &text)], 10);
+    }
+    for before in [0x11, 0x12, 0x13, 0x14] {
+        let text = format!("{y} {}", of_key_a(before));
+        check_file_refused(&check_file(&[(before, &text)]), 10);
+    }
+    package_refused(&[package(&[]), bytes(y)].concat(), 12);
+    check_file_refused(&[check_file(&[]), bytes(y)].concat(), 12);
+}
+
+// A single byte 04 after x is the head of y, cut; so is each longer part.
+#[test]
+fn a_target_that_is_cut() {
+    let start = joined(|tag| tag < 0x05, &[]);
+    for y in ["04 0002 0005", "04 0002 0000", "04 0002 0800"] {
+        let field = bytes(y);
+        for len in 0..field.len() {
+            package_refused(&[&start[..], &field[..len]].concat(), 9);
+            check_file_refused(&[&start[..], &field[..len]].concat(), 9);
+        }
+    }
+    package_refused(&[start.clone(), bytes("04 0002 0005")].concat(), 9);
+    package_refused(&[start.clone(), bytes("04 0002 0000")].concat(), 14);
+    package_refused(&[start, bytes("04 0002 0800")].concat(), 4);
+}
+
+// (0, 256) has zeros as its low bytes, and is no y of zeros.
+#[test]
+fn two_elements_of_a_target() {
+    let refused_with = |y: &str| {
+        let fields = [
+            "01 0002 0302",
+            "02 000c 0001 0000 0000 0000 0001 0000",
+            "03 0006 0000 0100 0002",
+            y,
+            "05 0002 0007",
+            "06 0006 000000000000",
+            "07 0030 0.. 0.. 00000000",
+        ];
+        let package = fields.map(bytes).concat();
+        assert_eq!(
+            field(&package, 0x04),
+            match read_package(&package) {
+                Ok(_) => bytes(y)[3..].to_vec(),
+                Err(_) => vec![],
+            }
+        );
+        read_package(&package).map_err(Refusal::number).err()
+    };
+    for (y, number) in [
+        ("04 0004 0000 0100", None),
+        ("04 0004 0100 0000", None),
+        ("04 0004 0000 0001", None),
+        ("04 0004 07ff 07ff", None),
+        ("04 0004 0000 0000", Some(14)),
+        ("04 0004 0000 0800", Some(4)),
+        ("04 0004 0800 0000", Some(4)),
+        ("04 0002 0001", Some(11)),
+        ("04 0006 0001 0001 0001", Some(11)),
+    ] {
+        assert_eq!(refused_with(y), number, "{y}");
+    }
+}
+
 #[test]
 fn a_file_that_ends_early() {
     package_refused(&[], 9);
@@ -296,6 +444,7 @@ fn another_tag_in_each_field() {
     for field in FIELDS {
         for other in [0x00, 0x04, 0x08, 0xFF] {
             let text = format!("{other:02x}{}", &field[2..]);
+            // 04 in the place of 05 is y, and no serial follows
             refused(&[(tag(field), &text)], 10);
         }
     }

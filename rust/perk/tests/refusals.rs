@@ -67,9 +67,9 @@ const SIZES: [(u32, Fault); 8] = [
 fn of_key() -> Vec<(u32, Fault)> {
     [
         &SIZES[..],
-        &lengths![h x],
-        &elements![4, 2048, h x],
-        &elements![4, 65535, h x],
+        &lengths![h x y],
+        &elements![4, 2048, h x y],
+        &elements![4, 65535, h x y],
     ]
     .concat()
 }
@@ -112,6 +112,7 @@ fn entries() -> [Entry; 4] {
                     (8, (|case| case.positions = vec![1, 1, 1]) as Fault),
                     (8, |case| case.positions = vec![0, 1, 3]),
                     (8, |case| case.h[0] = 3),
+                    (8, |case| case.y[0] = 1),
                 ],
                 &elements![7, 4, positions][..],
                 &elements![7, 255, positions],
@@ -228,7 +229,7 @@ fn names() {
 #[test]
 fn numbers_and_words() {
     let numbers = Refusal::ALL.map(Refusal::number);
-    assert_eq!(numbers, [1, 2, 3, 4, 5, 6, 7, 8, 9, 10, 11, 12, 19]);
+    assert_eq!(numbers, [1, 2, 3, 4, 5, 6, 7, 8, 9, 10, 11, 12, 14, 19]);
     let error: &dyn std::error::Error = &Refusal::Position;
     assert_eq!(error.to_string(), "a position is 2^d or more");
     let mut texts: Vec<String> = Refusal::ALL.iter().map(Refusal::to_string).collect();

@@ -68,13 +68,15 @@ fn x_prime(key: &WellFormed, z: &[Vec<Polynomial>]) -> Vec<Polynomial> {
     list
 }
 
-/// "Polynomial n + e, for e below m: the sum over i of H(e,i) times x'(i)".
+/// "Polynomial n + e, for e below m: the sum over i of H(e,i) times x'(i)"; it
+/// "loses y(e) times X^d".
 fn row_polynomial(key: &WellFormed, x_prime: &[Polynomial], e: usize) -> Polynomial {
     let mut sum = Polynomial::zero();
     for (&h, x_prime) in key.h[e].iter().zip(x_prime) {
         sum = sum + &Polynomial::constant(K::from_small(h)) * x_prime;
     }
-    sum
+    let y = Polynomial::constant(K::from_small(key.y[e]));
+    sum + &y * &Polynomial::x_to(key.sizes.d)
 }
 
 /// "the n + m polynomials": polynomial j for each j below n, then polynomial
@@ -98,7 +100,8 @@ pub fn z_value(t_row: &[bool], q_row: &[K], delta: K, j: usize) -> K {
 }
 
 /// "The verifier replaces w by t, each factor by q plus that bit times Δ, and
-/// X^d by Δ^d, which gives n + m values, value j from polynomial j."
+/// X^d by Δ^d, which gives n + m values, value j from polynomial j." Value n + e
+/// "loses y(e) times Δ^d".
 pub fn values(key: &WellFormed, t: &[Vec<bool>], q: &[Vec<K>], delta: K) -> Vec<K> {
     let n = key.sizes.n;
     let row = |i: usize| (0..n).map(move |j| z_value(&t[i], &q[i], delta, j));
@@ -119,12 +122,12 @@ pub fn values(key: &WellFormed, t: &[Vec<bool>], q: &[Vec<K>], delta: K) -> Vec<
         }
         x_prime.push(sum);
     }
-    for h_row in &key.h {
+    for (h_row, &y) in key.h.iter().zip(&key.y) {
         let mut sum = K::ZERO;
         for (&h, &x_prime) in h_row.iter().zip(&x_prime) {
             sum = sum + K::from_small(h) * x_prime;
         }
-        values.push(sum);
+        values.push(sum + K::from_small(y) * delta.power(key.sizes.d));
     }
     values
 }

@@ -93,15 +93,16 @@ fn line(name: &str, sample: &Sample, t: &[u8], a: &[u16]) -> String {
     format!("{name}: constraints{constraints}, prove{prove}, values{values}, verify{verify}\n")
 }
 
-/// n = 64, m = 63: H has unit rows; x, u and the masks are zero, and v and the
+/// n = 64, m = 63: H has unit rows; x, y, u and the masks are zero, and v and the
 /// weights but for two elements; the positions are 0 to 63, and Δ is 2. Since x
-/// is zero, every order solves the key.
+/// and y are zero, every order solves the key.
 fn largest() -> Sample {
     let sizes = Sizes::judged(64, 63).expect("sizes that are not refused");
     let mut sample = Sample::key_a();
     (sample.n, sample.m, sample.d) = (sizes.n, sizes.m, sizes.d);
     sample.h = unit_rows(sizes.n, sizes.m);
     sample.x = vec![0; sizes.x_words()];
+    sample.y = vec![0; sizes.y_words()];
     sample.positions = (0..64).collect();
     sample.u = vec![0; sizes.bit_bytes()];
     sample.v = vec![0; sizes.correlation_words()];
@@ -118,15 +119,30 @@ fn largest() -> Sample {
 
 /// The slices with a limit of 2047 and their names in the lines, in the order
 /// of the lines.
-const LIMITED: [(&str, &str); 7] = [
+const LIMITED: [(&str, &str); 8] = [
     ("h", "H"),
     ("x", "x"),
+    ("y", "y"),
     ("v", "v"),
     ("q", "q"),
     ("delta", "challenge"),
     ("alpha", "weights"),
     ("a", "a"),
 ];
+
+/// The lines of a key with these positions and material, and of verify for each
+/// of these proofs.
+fn example_lines(name: &str, sample: &Sample, proofs: &[&[u16]]) -> String {
+    let mut text = prover_lines(name, sample, &sample.positions);
+    let (t, _) = sample.proof().expect("the positions solve the key");
+    let values = answered(sample.values(&t).map(|values| shown_all(&values)));
+    text += &format!("{name}, values:{values}\n");
+    for a in proofs {
+        let verdict = verdict_of(sample, &t, &elements(a));
+        text += &format!("{name}, a ={}, verify:{verdict}\n", shown_all(&elements(a)));
+    }
+    text
+}
 
 /// All lines.
 pub fn text() -> String {
@@ -139,17 +155,18 @@ pub fn text() -> String {
     text += &format!("Y^11 times Y^11:{}\n", product_of(&y(11), &y(11)));
 
     let key_a = Sample::key_a();
-    text += &prover_lines("key A", &key_a, &[0, 1]);
-    let values = answered(key_a.values(&[1, 1]).map(|values| shown_all(&values)));
-    text += &format!("key A, values:{values}\n");
-    for a in [5, 4] {
-        let verdict = verdict_of(&key_a, &[1, 1], &elements(&[a]));
-        text += &format!("key A, a = {a}, verify:{verdict}\n");
-    }
+    text += &example_lines("key A", &key_a, &[&[5], &[4]]);
     text += &prover_lines("n = 3", &Sample::three(), &[1, 1, 1]);
     text += &prover_lines("n = 3", &Sample::three(), &[0, 1, 3]);
     text += &prover_lines("key A", &key_a, &[1, 0]);
     text += &prover_lines("n = 3", &Sample::three(), &[0, 1, 4]);
+
+    let with_target = Sample::key_a_with_target();
+    text += &example_lines("key A, y = 5", &with_target, &[&[5], &[4]]);
+    text += &prover_lines("key A, y = 5", &with_target, &[0, 1]);
+    let with_target = Sample::three_with_target();
+    text += &prover_lines("n = 3, y = 1", &with_target, &[1, 0, 2]);
+    text += &prover_lines("n = 3, y = 1", &with_target, &[0, 1, 2]);
 
     let sizes = |n: usize, m: usize| {
         let sample = Sample {

@@ -39,6 +39,11 @@ impl Sizes {
         self.n
     }
 
+    /// Words of y: "a target y of m elements of F".
+    pub fn y_words(self) -> usize {
+        self.m
+    }
+
     /// Bytes of the positions: "n positions, one byte each".
     pub fn position_bytes(self) -> usize {
         self.n
@@ -87,6 +92,7 @@ impl Sizes {
         match slice {
             "h" => self.h_words(),
             "x" => self.x_words(),
+            "y" => self.y_words(),
             "positions" => self.position_bytes(),
             "u" | "t" => self.bit_bytes(),
             "v" | "q" => self.correlation_words(),
@@ -134,7 +140,7 @@ pub fn digits(number: usize, d: usize) -> Vec<bool> {
     lowest_first
 }
 
-/// "The key is n, m, H and x", as it is lent.
+/// "The key is n, m, H and x", and "y is now part of the key", as it is lent.
 #[derive(Clone, Copy, Debug)]
 pub struct Key<'a> {
     /// The size n.
@@ -145,6 +151,8 @@ pub struct Key<'a> {
     pub h: &'a [u16],
     /// The vector x.
     pub x: &'a [u16],
+    /// The target y: "a y of zeros means the old key without a target".
+    pub y: &'a [u16],
 }
 
 impl Key<'_> {
@@ -156,8 +164,8 @@ impl Key<'_> {
     /// The place "slices": 3 "a lent slice isn't of its stated length", for the
     /// key and further slices, each with its name and its length.
     pub fn judge_lengths(self, sizes: Sizes, others: &[(&str, usize)]) -> Result<(), Refusal> {
-        let Key { h, x, .. } = self;
-        let key = lent![h, x];
+        let Key { h, x, y, .. } = self;
+        let key = lent![h, x, y];
         let mut lent = key.iter().chain(others);
         if lent.all(|&(slice, length)| length == sizes.length_of(slice)) {
             Ok(())
@@ -166,15 +174,17 @@ impl Key<'_> {
         }
     }
 
-    /// The place "key": 4 "an element of H or x is above 2047". Sizes and
-    /// lengths are judged before; H comes "row after row".
+    /// The place "key": 4 "an element of H or x is above 2047", or one of y.
+    /// Sizes and lengths are judged before; H comes "row after row".
     pub fn judged(self, sizes: Sizes) -> Result<WellFormed, Refusal> {
         let h = elements_of_f(self.h)?;
         let x = elements_of_f(self.x)?;
+        let y = elements_of_f(self.y)?;
         Ok(WellFormed {
             sizes,
             h: rows(&h, sizes.n),
             x,
+            y,
         })
     }
 }
@@ -188,9 +198,12 @@ pub struct WellFormed {
     pub h: Vec<Vec<F>>,
     /// The vector x.
     pub x: Vec<F>,
+    /// The target y.
+    pub y: Vec<F>,
 }
 
-/// Words as elements of F, or 4 "an element of H or x is above 2047".
+/// Words as elements of F, or 4 "an element of H or x is above 2047", or one of
+/// y.
 pub fn elements_of_f(words: &[u16]) -> Result<Vec<F>, Refusal> {
     words
         .iter()

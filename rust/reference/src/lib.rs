@@ -3,12 +3,12 @@
 //! compared with.
 //!
 //! Each function names the sentence of the specification that it follows;
-//! quotes are of the specification's document 01, and about the second level
-//! and serials of four bytes of its document 02. The methods are the plainest
-//! ones: long products and long divisions for both fields, general polynomials
-//! over K, sums as they are written, and readers that cut the bytes into fields
-//! first and judge the fields afterwards. Nothing here is meant to be quick or
-//! to run in constant time.
+//! quotes are of the specification's document 01, and about the second level,
+//! serials of four bytes and the target y of its document 02. The methods are
+//! the plainest ones: long products and long divisions for both fields, general
+//! polynomials over K, sums as they are written, and readers that cut the bytes
+//! into fields first and judge the fields afterwards. Nothing here is meant to
+//! be quick or to run in constant time.
 //!
 //! - [`level`]: what the two levels fix of the fields;
 //! - [`small_field`] and [`large_field`]: the fields F and K of a level;

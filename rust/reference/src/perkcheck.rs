@@ -12,11 +12,17 @@ pub const LIMIT: usize = 32_768;
 pub fn check(bytes: &[u8]) -> Result<(Contents, Verdict), Refusal> {
     let contents = read_check_file(bytes)?;
     let words = |tag| words(check_file_field(bytes, tag));
+    let y = match words(tag::Y) {
+        // "absent means all zero"
+        absent if absent.is_empty() => vec![0; contents.m],
+        y => y,
+    };
     let key = Key {
         n: contents.n,
         m: contents.m,
         h: &words(tag::H),
         x: &words(tag::X),
+        y: &y,
     };
     let t = check_file_field(bytes, tag::T);
     let [q, delta, masks, alpha, a] =

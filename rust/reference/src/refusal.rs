@@ -10,7 +10,8 @@ pub enum Refusal {
     SizeM,
     /// 3: "a lent slice isn't of its stated length".
     SliceLength,
-    /// 4: "an element of H or x is above 2047".
+    /// 4: "an element of H or x is above 2047", and "An element of y above 2047
+    /// gets 4."
     KeyElement,
     /// 5: "a byte of u or t is above 1".
     Bit,
@@ -29,13 +30,15 @@ pub enum Refusal {
     FieldLength,
     /// 12: "bytes follow the last field".
     BytesFollow,
+    /// 14: "field 04 is present and all its elements are zero".
+    ZeroTarget,
     /// 19: "a four-byte serial is below 65,536".
     LongSerial,
 }
 
 impl Refusal {
     /// All refusals in the order of their numbers.
-    pub const ALL: [Refusal; 13] = [
+    pub const ALL: [Refusal; 14] = [
         Refusal::SizeN,
         Refusal::SizeM,
         Refusal::SliceLength,
@@ -48,6 +51,7 @@ impl Refusal {
         Refusal::Tag,
         Refusal::FieldLength,
         Refusal::BytesFollow,
+        Refusal::ZeroTarget,
         Refusal::LongSerial,
     ];
 
@@ -66,6 +70,7 @@ impl Refusal {
             Refusal::Tag => 10,
             Refusal::FieldLength => 11,
             Refusal::BytesFollow => 12,
+            Refusal::ZeroTarget => 14,
             Refusal::LongSerial => 19,
         }
     }

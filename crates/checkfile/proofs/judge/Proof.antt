@@ -1,5 +1,8 @@
+use mathlib.Core.Path.{sym, ap}
+use lib.Seq.{length-take-le}
 use native.Mathlib.Omega.{arith}
-use Rattle.checkfile.proofs.Rooms.{matrix, vector, proof}
+use Rattle.key.specs.declared.Key.{Key}
+use Rattle.checkfile.proofs.Rooms.{matrix, vector, rows, target, target-put, proof}
 use Rattle.copying.specs.Words.{Bytes}
 use borrow.Author.Needs.{needs}
 use Rattle.checkfile.proofs.judge.Statement.{statement}
@@ -24,7 +27,13 @@ slice-aggregate-load-3 : tie.Need-slice-aggregate-load-3
 slice-aggregate-load-3 c = search needs
 
 load-requires-3 : tie.Need-load-requires-3
-load-requires-3 c κs = (c .before .before .before .before .before .before .before .before .pre .0, omega (arith, proof (c .before .before .before .before .before .before .before .before .args .bytes .now) (bytes-known (c .before .before .before .before .before .before .before)) (c .before .before .before .before .before .before .before .before .pre .0)))
+load-requires-3 c κs = (c .before .before .before .before .before .before .before .before .pre .0, omega (arith, target (c .before .before .before .before .before .before .before .before .args .bytes .now) (bytes-known (c .before .before .before .before .before .before .before)) (c .before .before .before .before .before .before .before .before .pre .0)))
+
+slice-aggregate-load-4 : tie.Need-slice-aggregate-load-4
+slice-aggregate-load-4 c = search needs
+
+load-requires-4 : tie.Need-load-requires-4
+load-requires-4 c κs = (c .before .before .before .before .before .before .before .before .before .before .before .pre .0, omega (arith, proof (c .before .before .before .before .before .before .before .before .before .before .before .args .bytes .now) (bytes-known (c .before .before .before .before .before .before .before .before .before .before)) (c .before .before .before .before .before .before .before .before .before .before .before .pre .0)))
 
 array-share-prefix-h : tie.Need-array-share-prefix-h
 array-share-prefix-h c = search needs
@@ -38,17 +47,25 @@ array-share-prefix-x c = search needs
 slice-aggregate-judge-with-2 : tie.Need-slice-aggregate-judge-with-2
 slice-aggregate-judge-with-2 c = search needs
 
+array-share-prefix-y : tie.Need-array-share-prefix-y
+array-share-prefix-y c = let s = c .before .before .before .before .before .before .before .before .before .before .before .before .before .before .before in omega (arith, rows (s .args .bytes .now) (bytes-known (c .before .before .before .before .before .before .before .before .before .before .before .before .before .before)) (s .pre .0), ap (λ (k : Key). k .m) (s .pre .1))
+
+slice-aggregate-judge-with-3 : tie.Need-slice-aggregate-judge-with-3
+slice-aggregate-judge-with-3 c = sym (length-take-le _ _ (array-share-prefix-y (c .before)))
+
 array-share-prefix-a : tie.Need-array-share-prefix-a
 array-share-prefix-a c = search needs
 
-slice-aggregate-judge-with-3 : tie.Need-slice-aggregate-judge-with-3
-slice-aggregate-judge-with-3 c = search needs
+slice-aggregate-judge-with-4 : tie.Need-slice-aggregate-judge-with-4
+slice-aggregate-judge-with-4 c = search needs
 
 judge-with-requires : tie.Need-judge-with-requires
 judge-with-requires c κs = search needs
 
 returns : tie.Need-returns
-returns c = rw (c .judge-with .ensures, c .before .before .before .before .before .before .before .before .before .before .before .before .before .before .pre .1, c .before .before .before .before .before .before .before .before .before .before .before .load .ensures .0, c .before .before .before .before .before .before .before .before .load2 .ensures .0, c .before .before .before .before .before .load3 .ensures .0)
+returns c =
+    let s = c .before .before .before .before .before .before .before .before .before .before .before .before .before .before .before .before .before .before in
+    rw (c .judge-with .ensures, s .pre .1, c .before .before .before .before .before .before .before .before .before .before .before .before .before .before .before .load .ensures .0, c .before .before .before .before .before .before .before .before .before .before .before .before .load2 .ensures .0, c .before .before .before .before .before .before .before .before .before .load3 .ensures .3, target-put (s .args .bytes .now) (bytes-known (c .before .before .before .before .before .before .before .before .before .before .before .before .before .before .before .before .before)) (s .pre .0), c .before .before .before .before .before .before .load4 .ensures .0)
 
 pub judge-spec : {M : Type 1} → statement M
 judge-spec =
@@ -60,11 +77,15 @@ judge-spec =
     load-requires-2
     slice-aggregate-load-3
     load-requires-3
+    slice-aggregate-load-4
+    load-requires-4
     array-share-prefix-h
     slice-aggregate-judge-with
     array-share-prefix-x
     slice-aggregate-judge-with-2
-    array-share-prefix-a
+    array-share-prefix-y
     slice-aggregate-judge-with-3
+    array-share-prefix-a
+    slice-aggregate-judge-with-4
     judge-with-requires
     returns)

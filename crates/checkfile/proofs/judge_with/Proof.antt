@@ -14,32 +14,32 @@ bytes-known : (c : tie.After-shared-slice-known) → Bytes (c .before .args .byt
 bytes-known c = λ i. omega (arith, c .shared-slice-known .given i)
 
 -- t is the content of its field
-is : (c : tie.After-content) → let a = c .before .before .before .before .before .before .before .before .before .before .before .before .before .before .before .before .before .args in now (c .content .result) ≡ content (levelAt FIRST) (a .bytes .now) 0x06
-is c = let g = c .before .before .before .before .before .before .before .before .before .before .before .before .before .before .before .before .before in content-is (c .content .result) (g .args .bytes) 0x06 (g .pre) (c .content .ensures)
+is : (c : tie.After-content) → let a = c .before .before .before .before .before .before .before .before .before .before .before .before .before .before .before .before .before .before .args in now (c .content .result) ≡ content (levelAt FIRST) (a .bytes .now) 0x06
+is c = let g = c .before .before .before .before .before .before .before .before .before .before .before .before .before .before .before .before .before .before in content-is (c .content .result) (g .args .bytes) 0x06 (g .pre) (c .content .ensures)
 
 slice-aggregate-load : tie.Need-slice-aggregate-load
 slice-aggregate-load c = search needs
 
 load-requires : tie.Need-load-requires
-load-requires c κs = (c .before .before .before .before .before .pre, omega (arith, elements (c .before .before .before .before .before .args .bytes .now) (bytes-known (c .before .before .before .before)) (c .before .before .before .before .before .pre)))
+load-requires c κs = (c .before .before .before .before .before .before .pre, omega (arith, elements (c .before .before .before .before .before .before .args .bytes .now) (bytes-known (c .before .before .before .before .before)) (c .before .before .before .before .before .before .pre)))
 
 slice-aggregate-load-2 : tie.Need-slice-aggregate-load-2
 slice-aggregate-load-2 c = search needs
 
 load-requires-2 : tie.Need-load-requires-2
-load-requires-2 c κs = (c .before .before .before .before .before .before .before .before .pre, omega (arith, masks (c .before .before .before .before .before .before .before .before .args .bytes .now) (bytes-known (c .before .before .before .before .before .before .before)) (c .before .before .before .before .before .before .before .before .pre)))
+load-requires-2 c κs = (c .before .before .before .before .before .before .before .before .before .pre, omega (arith, masks (c .before .before .before .before .before .before .before .before .before .args .bytes .now) (bytes-known (c .before .before .before .before .before .before .before .before)) (c .before .before .before .before .before .before .before .before .before .pre)))
 
 slice-aggregate-load-3 : tie.Need-slice-aggregate-load-3
 slice-aggregate-load-3 c = search needs
 
 load-requires-3 : tie.Need-load-requires-3
-load-requires-3 c κs = (c .before .before .before .before .before .before .before .before .before .before .before .pre, omega (arith, one (c .before .before .before .before .before .before .before .before .before .before .before .args .bytes .now) (bytes-known (c .before .before .before .before .before .before .before .before .before .before)) (c .before .before .before .before .before .before .before .before .before .before .before .pre)))
+load-requires-3 c κs = (c .before .before .before .before .before .before .before .before .before .before .before .before .pre, omega (arith, one (c .before .before .before .before .before .before .before .before .before .before .before .before .args .bytes .now) (bytes-known (c .before .before .before .before .before .before .before .before .before .before .before)) (c .before .before .before .before .before .before .before .before .before .before .before .before .pre)))
 
 slice-aggregate-load-4 : tie.Need-slice-aggregate-load-4
 slice-aggregate-load-4 c = search needs
 
 load-requires-4 : tie.Need-load-requires-4
-load-requires-4 c κs = (c .before .before .before .before .before .before .before .before .before .before .before .before .before .before .pre, omega (arith, values (c .before .before .before .before .before .before .before .before .before .before .before .before .before .before .args .bytes .now) (bytes-known (c .before .before .before .before .before .before .before .before .before .before .before .before .before)) (c .before .before .before .before .before .before .before .before .before .before .before .before .before .before .pre)))
+load-requires-4 c κs = (c .before .before .before .before .before .before .before .before .before .before .before .before .before .before .before .pre, omega (arith, values (c .before .before .before .before .before .before .before .before .before .before .before .before .before .before .before .args .bytes .now) (bytes-known (c .before .before .before .before .before .before .before .before .before .before .before .before .before .before)) (c .before .before .before .before .before .before .before .before .before .before .before .before .before .before .before .pre)))
 
 content-requires : tie.Need-content-requires
 content-requires c κs = search needs

@@ -1,5 +1,8 @@
 use mathlib.Core.Path.{_≡_, ap, _∙_}
+use mathlib.Core.List.{List}
+use Prim.Native.Nat.{ℕ}
 use denote.Ref.{now}
+use Rattle.lists.specs.Words.{put}
 use Rattle.copying.specs.Words.{words}
 use Rattle.field.specs.Level.{FIRST, levelAt}
 use Rattle.checkfile.specs.Checking.{content}
@@ -23,7 +26,7 @@ same-length c = search needs
 returns : tie.Need-returns
 returns c =
     let e = c .before .before .words-into .ensures in
-    (e .0 ∙ ap words (is (c .before .before .before .before)), e .1, e .2)
+    (e .0 ∙ ap words (is (c .before .before .before .before)), e .1, e .2, e .3 ∙ ap (λ (w : List ℕ). put 0 w (c .before .before .before .before .before .before .before .args .out .now)) (ap words (is (c .before .before .before .before))))
 
 pub load-spec : {M : Type 1} → statement M
 load-spec = tie.close (tie.spec content-requires words-into-requires same-length returns)

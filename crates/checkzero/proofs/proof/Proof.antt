@@ -1,3 +1,4 @@
+use mathlib.Core.List.{List}
 use mathlib.Core.Path.{ap, _∙_}
 use Prim.Native.Nat.{ℕ, _+_, _-_}
 use native.Mathlib.Omega.{arith}
@@ -8,6 +9,7 @@ use Rattle.field.specs.declared.Level.{Level}
 use Rattle.row.specs.Elements.{el, Fits}
 use Rattle.row.proofs.ElementLaws.{fits-le, fits-all}
 use Rattle.checkzero.specs.CheckZero.{mask}
+use Rattle.row.specs.Lent.{smallOf}
 use Rattle.checkzero.specs.Steps.{weightedAt}
 use Rattle.checkzero.proofs.Laws.{written}
 use Rattle.checkzero.proofs.proof.Statement.{statement}
@@ -16,8 +18,8 @@ use Rattle.checkzero.proofs.proof.Tie as tie
 abbrev L : tie.Start → Level
 L s = levelAt (s .args .level)
 
-abbrev sums : (s : tie.Start) → ℕ → K (L s) .Carrier
-sums s = weightedAt (L s) (s .args .n) (s .args .m) (s .args .d) (s .args .h .now) (s .args .x .now) (s .args .positions .now) (s .args .v .now) (s .args .alpha .now)
+abbrev sums : (s : tie.Start) → List ℕ → ℕ → K (L s) .Carrier
+sums s y = weightedAt (L s) (s .args .n) (s .args .m) (s .args .d) (s .args .h .now) (s .args .x .now) y (s .args .positions .now) (s .args .v .now) (s .args .alpha .now)
 
 abbrev masks : (s : tie.Start) → ℕ → K (L s) .Carrier
 masks s = mask (K (L s)) (s .args .d - 1) (el (L s) (s .args .r .now)) (el (L s) (s .args .s .now))
@@ -53,13 +55,13 @@ same-length-3 : tie.Need-same-length-3
 same-length-3 c = search needs
 
 returns : tie.Need-returns
-returns c =
+returns c y =
     let s = c .before .before .before .before .before .before .before .before .before .before .before .before .before .before .before .before .before .before .before .before .before .before .before .before in
     let w = c .before .before .before .before .before .before .before .before .before .before .weighted in
     let m = c .before .before .add-masks in
     let k = K (L s) in
-    written (L s) (s .args .d) (m .last .0) (λ i. k .add (sums s i) (masks s i)) (m .ensures .words) (s .pre .1 .0 .0) (m .ensures .same ∙ w .ensures .same ∙ s .pre .1 .0 .6)
-    (λ i l. m .ensures .holds .low i (omega (arith, s .pre .1 .0 .1)) ∙ ap (λ y. k .add y (masks s i)) (w .ensures .holds i l))
+    written (L s) (s .args .d) (m .last .0) (λ i. k .add (sums s y i) (masks s i)) (m .ensures .words) (s .pre .1 .0 .0) (m .ensures .same ∙ w .ensures .same ∙ s .pre .1 .0 .6)
+    (λ i l. m .ensures .holds .low i (omega (arith, s .pre .1 .0 .1)) ∙ ap (λ b. k .add b (masks s i)) (w .ensures .holds (smallOf (L s) y) i l))
 
 pub proof-spec : {M : Type 1} → statement M
 proof-spec =

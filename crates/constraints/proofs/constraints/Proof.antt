@@ -6,6 +6,7 @@ use Rattle.field.proofs.Fields.{bounded}
 use Rattle.constraints.specs.Slices.{maskedBytes, polynomialWords, witnessOf}
 use Rattle.constraints.specs.Truth.{Truth}
 use Rattle.constraints.specs.Entry.{constraintsRows, constraintsOutcome, system}
+use Rattle.key.specs.Key.{keySlices}
 use Rattle.constraints.proofs.Fine.{ConstraintsFine, constraints-fine}
 use Rattle.constraints.proofs.Truth.{truth}
 use Prim.Native.Nat.{ℕ}
@@ -16,10 +17,10 @@ use Rattle.constraints.proofs.constraints.Statement.{statement}
 use Rattle.constraints.proofs.constraints.Tie as tie
 
 -- what holds of the slices where no refusal applies
-lent : (c : tie.After-enum-told) → let a = c .before .before .before .before .before .before .before .before .before .before .before .before .args in ConstraintsFine FIRST (a .key) (a .h .now) (a .x .now) (a .positions .now) (a .u .now) (a .v .now) (a .t .now) (a .polynomials .now)
+lent : (c : tie.After-enum-told) → let a = c .before .before .before .before .before .before .before .before .before .before .before .before .before .args in ConstraintsFine FIRST (a .key) (keySlices (a .h .now) (a .x .now) (a .y .now)) (a .positions .now) (a .u .now) (a .v .now) (a .t .now) (a .polynomials .now)
 lent c =
-    let a = c .before .before .before .before .before .before .before .before .before .before .before .before .args in
-    constraints-fine FIRST (a .key) (a .h .now) (a .x .now) (a .positions .now) (a .u .now) (a .v .now) (a .t .now) (a .polynomials .now) (sym (c .before .before .constraints-refused .ensures) ∙ c .enum-told .given .1)
+    let a = c .before .before .before .before .before .before .before .before .before .before .before .before .before .args in
+    constraints-fine FIRST (a .key) (keySlices (a .h .now) (a .x .now) (a .y .now)) (a .positions .now) (a .u .now) (a .v .now) (a .t .now) (a .polynomials .now) (sym (c .before .before .constraints-refused .ensures) ∙ c .enum-told .given .1)
 
 constraints-refused-requires : tie.Need-constraints-refused-requires
 constraints-refused-requires c κs = search needs
@@ -35,7 +36,7 @@ write-masked-witness-requires c κs =
 write-polynomials-requires : tie.Need-write-polynomials-requires
 write-polynomials-requires c κs =
     let f = lent (c .before .before .before .before .before) in
-    ((f .is-sized, f .is-key, f .v-words), (f .positions-length, f .v-length, f .p-length))
+    ((f .is-sized, f .is-key, f .v-words, f .is-target), (f .positions-length, f .v-length, f .p-length))
 
 enum-told-2 : tie.Need-enum-told-2
 enum-told-2 c = search needs
@@ -49,14 +50,14 @@ same-length-2 c = search needs
 returns : tie.Need-returns
 unfolding constraintsOutcome
 returns c =
-    let a = c .before .before .before .before .before .before .before .before .before .before .before .before .before .before .before .before .before .before .before .before .args in
-    let t = c .before .before .before .before .before .before .write-masked-witness .ensures (a .h .now) (a .x .now) in
+    let a = c .before .before .before .before .before .before .before .before .before .before .before .before .before .before .before .before .before .before .before .before .before .args in
+    let t = c .before .before .before .before .before .before .write-masked-witness .ensures (keySlices (a .h .now) (a .x .now) (a .y .now)) in
     let p = c .before .before .write-polynomials .ensures in
     let f = lent (c .before .before .before .before .before .before .before .before) in
     let b = bounded FIRST in (
-      when-done (constraintsRows (levelAt FIRST) (a .key) (a .h .now) (a .x .now) (a .positions .now) (a .u .now) (a .v .now) (a .t .now) (a .polynomials .now)) (maskedBytes (system (levelAt FIRST) (a .key) (a .h .now) (a .x .now)) (witnessOf (a .key .n) (a .positions .now)) (a .u .now), polynomialWords (levelAt FIRST) (system (levelAt FIRST) (a .key) (a .h .now) (a .x .now)) (witnessOf (a .key .n) (a .positions .now)) (a .v .now)) (a .t .now, a .polynomials .now) (c .before .before .before .before .before .before .before .before .before .before .constraints-refused .ensures) (c .before .before .before .before .before .before .before .before .enum-told .given .1) (ap₂ (λ (t p : List ℕ). (t, p)) t p),
-      λ _. subst₂ (Truth (levelAt FIRST) (a .key .n) (a .key .m) (a .h .now) (a .x .now) (a .positions .now) (a .u .now) (a .v .now)) (sym t) (sym p)
-          (truth (levelAt FIRST) (b .width) (b .coordinates) (a .key .n) (a .key .m) (a .h .now) (a .x .now) (omega (arith, b .most, f .is-sized .most)) (a .positions .now) (λ i l. f .positions-lt i) (a .u .now) (a .v .now)),
+      when-done (constraintsRows (levelAt FIRST) (a .key) (keySlices (a .h .now) (a .x .now) (a .y .now)) (a .positions .now) (a .u .now) (a .v .now) (a .t .now) (a .polynomials .now)) (maskedBytes (system (levelAt FIRST) (a .key) (keySlices (a .h .now) (a .x .now) (a .y .now))) (witnessOf (a .key .n) (a .positions .now)) (a .u .now), polynomialWords (levelAt FIRST) (system (levelAt FIRST) (a .key) (keySlices (a .h .now) (a .x .now) (a .y .now))) (witnessOf (a .key .n) (a .positions .now)) (a .v .now)) (a .t .now, a .polynomials .now) (c .before .before .before .before .before .before .before .before .before .before .constraints-refused .ensures) (c .before .before .before .before .before .before .before .before .enum-told .given .1) (ap₂ (λ (t p : List ℕ). (t, p)) t p),
+      λ _. subst₂ (Truth (levelAt FIRST) (a .key .n) (a .key .m) (keySlices (a .h .now) (a .x .now) (a .y .now)) (a .positions .now) (a .u .now) (a .v .now)) (sym t) (sym p)
+          (truth (levelAt FIRST) (b .width) (b .coordinates) (a .key .n) (a .key .m) (keySlices (a .h .now) (a .x .now) (a .y .now)) (omega (arith, b .most, f .is-sized .most)) (a .positions .now) (λ i l. f .positions-lt i) (a .u .now) (a .v .now)),
     )
 
 same-length-3 : tie.Need-same-length-3
@@ -68,9 +69,9 @@ same-length-4 c = search needs
 returns-2 : tie.Need-returns-2
 unfolding constraintsOutcome
 returns-2 c =
-    let a = c .before .before .before .before .before .before .before .before .before .before .before .before .args in
+    let a = c .before .before .before .before .before .before .before .before .before .before .before .before .before .args in
     let e = c .before .before .constraints-refused .ensures in (
-      when-refused (constraintsRows (levelAt FIRST) (a .key) (a .h .now) (a .x .now) (a .positions .now) (a .u .now) (a .v .now) (a .t .now) (a .polynomials .now)) (maskedBytes (system (levelAt FIRST) (a .key) (a .h .now) (a .x .now)) (witnessOf (a .key .n) (a .positions .now)) (a .u .now), polynomialWords (levelAt FIRST) (system (levelAt FIRST) (a .key) (a .h .now) (a .x .now)) (witnessOf (a .key .n) (a .positions .now)) (a .v .now)) (a .t .now, a .polynomials .now) e (c .enum-told2 .given .1),
+      when-refused (constraintsRows (levelAt FIRST) (a .key) (keySlices (a .h .now) (a .x .now) (a .y .now)) (a .positions .now) (a .u .now) (a .v .now) (a .t .now) (a .polynomials .now)) (maskedBytes (system (levelAt FIRST) (a .key) (keySlices (a .h .now) (a .x .now) (a .y .now))) (witnessOf (a .key .n) (a .positions .now)) (a .u .now), polynomialWords (levelAt FIRST) (system (levelAt FIRST) (a .key) (keySlices (a .h .now) (a .x .now) (a .y .now))) (witnessOf (a .key .n) (a .positions .now)) (a .v .now)) (a .t .now, a .polynomials .now) e (c .enum-told2 .given .1),
       λ done. absurd (not-both done (c .enum-told2 .given .1)),
     )
 

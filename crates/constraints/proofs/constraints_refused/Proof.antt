@@ -5,9 +5,9 @@ use Rattle.refusal.specs.declared.Answer.the-variants.{Done}
 use Rattle.refusal.proofs.Answers.{after-refused, none}
 use Rattle.field.specs.Level.{FIRST, levelAt}
 use Rattle.field.proofs.Fields.{bounded}
-use Rattle.key.specs.Key.{degree, lengths, sizes, Sized, below, withins, checks}
+use Rattle.key.specs.Key.{degree, lengths, sizes, Sized, keySlices, keyWithin, below, withins, checks}
 use Rattle.key.proofs.Sized.{sized, degree-lt}
-use Rattle.key.proofs.Fine.{withins-more, withins-last}
+use Rattle.key.proofs.Fine.{withins-last}
 use Rattle.key.proofs.Checked.{told, told-length}
 use Rattle.constraints.specs.Entry.{constraintsLent}
 use mathlib.Core.Path.{_≡_, sym, ap, _∙_}
@@ -17,11 +17,11 @@ use Rattle.constraints.proofs.constraints_refused.Statement.{statement}
 use Rattle.constraints.proofs.constraints_refused.Tie as tie
 
 -- past the sizes
-passed : (c : tie.After-enum-told2) → firstOf (sizes (levelAt FIRST) (c .before .before .before .before .before .before .before .before .before .before .args .key)) ≡ Done
+passed : (c : tie.After-enum-told2) → firstOf (sizes (levelAt FIRST) (c .before .before .before .before .before .before .before .before .before .before .before .args .key)) ≡ Done
 passed c = sym (c .before .before .sizes .ensures) ∙ c .enum-told2 .given .1
 
-is-sized : (c : tie.After-enum-told2) → Sized (levelAt FIRST) (c .before .before .before .before .before .before .before .before .before .before .args .key)
-is-sized c = let k = c .before .before .before .before .before .before .before .before .before .before .args .key in sized (levelAt FIRST) k (none (sizes (levelAt FIRST) k) (passed c))
+is-sized : (c : tie.After-enum-told2) → Sized (levelAt FIRST) (c .before .before .before .before .before .before .before .before .before .before .before .args .key)
+is-sized c = let k = c .before .before .before .before .before .before .before .before .before .before .before .args .key in sized (levelAt FIRST) k (none (sizes (levelAt FIRST) k) (passed c))
 
 sizes-requires : tie.Need-sizes-requires
 sizes-requires c κs = search needs
@@ -31,9 +31,9 @@ enum-told c = search needs
 
 returns : tie.Need-returns
 returns c =
-    let a = c .before .before .before .before .before .before .before .before .before .before .args in
+    let a = c .before .before .before .before .before .before .before .before .before .before .before .args in
     after-refused (sizes (levelAt FIRST) (a .key))
-    (checks (long (constraintsLent (lengths (levelAt FIRST) (a .key)) (a .h .now) (a .x .now) (a .positions .now) (a .u .now) (a .v .now) (a .t .now) (a .p .now))) (withins (levelAt FIRST) (a .h .now ∷ a .x .now ∷ [])) (below 1 (a .u .now)) (withins (levelAt FIRST) (a .v .now ∷ [])) (below (degree (a .key .n)) (a .positions .now)))
+    (checks (long (constraintsLent (lengths (levelAt FIRST) (a .key)) (keySlices (a .h .now) (a .x .now) (a .y .now)) (a .positions .now) (a .u .now) (a .v .now) (a .t .now) (a .p .now))) (keyWithin (levelAt FIRST) (keySlices (a .h .now) (a .x .now) (a .y .now))) (below 1 (a .u .now)) (withins (levelAt FIRST) (a .v .now ∷ [])) (below (degree (a .key .n)) (a .positions .now)))
     (c .before .before .sizes .ensures) (c .enum-told .given .1)
 
 enum-told-2 : tie.Need-enum-told-2
@@ -44,30 +44,27 @@ constraints-lengths-requires c κs = is-sized c
 
 returns-2 : tie.Need-returns-2
 returns-2 c =
-    let a = c .before .before .before .before .before .before .before .before .before .before .before .before .args in
-    told-length (levelAt FIRST) (a .key) (long (constraintsLent (lengths (levelAt FIRST) (a .key)) (a .h .now) (a .x .now) (a .positions .now) (a .u .now) (a .v .now) (a .t .now) (a .p .now))) (withins (levelAt FIRST) (a .h .now ∷ a .x .now ∷ [])) (below 1 (a .u .now)) (withins (levelAt FIRST) (a .v .now ∷ [])) (below (degree (a .key .n)) (a .positions .now))
+    let a = c .before .before .before .before .before .before .before .before .before .before .before .before .before .args in
+    told-length (levelAt FIRST) (a .key) (long (constraintsLent (lengths (levelAt FIRST) (a .key)) (keySlices (a .h .now) (a .x .now) (a .y .now)) (a .positions .now) (a .u .now) (a .v .now) (a .t .now) (a .p .now))) (keyWithin (levelAt FIRST) (keySlices (a .h .now) (a .x .now) (a .y .now))) (below 1 (a .u .now)) (withins (levelAt FIRST) (a .v .now ∷ [])) (below (degree (a .key .n)) (a .positions .now))
     (passed (c .before .before)) (c .before .constraints-lengths .result) (c .before .constraints-lengths .ensures) (c .if1 .taken)
 
 excess-requires : tie.Need-excess-requires
 excess-requires c κs = search needs
 
-excess-requires-2 : tie.Need-excess-requires-2
-excess-requires-2 c κs = search needs
-
 degree-requires : tie.Need-degree-requires
-degree-requires c κs = omega (arith, is-sized (c .before .before .before .before) .two)
+degree-requires c κs = omega (arith, is-sized (c .before .before .before) .two)
 
 over-requires : tie.Need-over-requires
 over-requires c κs =
-    let s = is-sized (c .before .before .before .before .before) in
+    let s = is-sized (c .before .before .before .before) in
     let b = bounded FIRST in
     omega (arith, c .degree .ensures, degree-lt (c .before .before .before .before .before .before .before .before .before .before .before .before .before .before .before .args .key .n) 8 (omega (arith, s .two)) (omega (arith, s .most, b .most)) (omega (arith, s .most, b .most)))
 
 over-requires-2 : tie.Need-over-requires-2
 over-requires-2 c κs = search needs
 
-excess-requires-3 : tie.Need-excess-requires-3
-excess-requires-3 c κs = search needs
+excess-requires-2 : tie.Need-excess-requires-2
+excess-requires-2 c κs = search needs
 
 contents-requires : tie.Need-contents-requires
 contents-requires c κs = search needs
@@ -75,12 +72,12 @@ contents-requires c κs = search needs
 returns-3 : tie.Need-returns-3
 returns-3 c =
     let a = c .before .before .before .before .before .before .before .before .before .before .before .before .before .before .before .before .before .before .before .args in
-    let e = c .before .before .before .before .before .before in
-    told (levelAt FIRST) (a .key) (long (constraintsLent (lengths (levelAt FIRST) (a .key)) (a .h .now) (a .x .now) (a .positions .now) (a .u .now) (a .v .now) (a .t .now) (a .p .now))) (withins (levelAt FIRST) (a .h .now ∷ a .x .now ∷ [])) (below 1 (a .u .now)) (withins (levelAt FIRST) (a .v .now ∷ [])) (below (degree (a .key .n)) (a .positions .now))
+    let e = c .before .before .before .before .before in
+    told (levelAt FIRST) (a .key) (long (constraintsLent (lengths (levelAt FIRST) (a .key)) (keySlices (a .h .now) (a .x .now) (a .y .now)) (a .positions .now) (a .u .now) (a .v .now) (a .t .now) (a .p .now))) (keyWithin (levelAt FIRST) (keySlices (a .h .now) (a .x .now) (a .y .now))) (below 1 (a .u .now)) (withins (levelAt FIRST) (a .v .now ∷ [])) (below (degree (a .key .n)) (a .positions .now))
     (passed (e .before .before .before)) (e .before .before .constraints-lengths .result) (e .before .before .constraints-lengths .ensures) (e .before .if1 .left) (c .contents .ensures)
-    (withins-more (levelAt FIRST) (a .h .now) (a .x .now ∷ []) (e .excess .result) (c .before .before .before .before .before .excess2 .result) (e .excess .ensures) (withins-last (levelAt FIRST) (a .x .now) (c .before .before .before .before .before .excess2 .result) (c .before .before .before .before .before .excess2 .ensures)))
+    (e .excess .ensures)
     (c .before .before .over2 .ensures)
-    (withins-last (levelAt FIRST) (a .v .now) (c .before .excess3 .result) (c .before .excess3 .ensures))
+    (withins-last (levelAt FIRST) (a .v .now) (c .before .excess2 .result) (c .before .excess2 .ensures))
     (c .before .before .before .over .ensures ∙ ap (λ d. below d (a .positions .now)) (c .before .before .before .before .degree .ensures))
 
 pub constraints-refused-spec : {M : Type 1} → statement M
@@ -94,10 +91,9 @@ constraints-refused-spec =
     constraints-lengths-requires
     returns-2
     excess-requires
-    excess-requires-2
     degree-requires
     over-requires
     over-requires-2
-    excess-requires-3
+    excess-requires-2
     contents-requires
     returns-3)

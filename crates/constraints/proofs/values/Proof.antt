@@ -1,6 +1,7 @@
 use Rattle.refusal.proofs.Answers.{when-done, when-refused}
 use Rattle.field.specs.Level.{FIRST, levelAt}
 use Rattle.constraints.specs.Slices.{valueWords}
+use Rattle.key.specs.Key.{keySlices}
 use Rattle.constraints.proofs.Fine.{values-fine}
 use Rattle.constraints.specs.Entry.{valuesRows, valuesOutcome, system}
 use mathlib.Core.Path.{sym, _∙_}
@@ -16,9 +17,9 @@ enum-told c = search needs
 
 write-values-requires : tie.Need-write-values-requires
 write-values-requires c κs =
-    let a = c .before .before .before .before .before .before .before .before .before .before .before .args in
-    let f = values-fine FIRST (a .key) (a .h .now) (a .x .now) (a .t .now) (a .q .now) (a .delta .now) (a .values .now) (sym (c .before .before .before .values-refused .ensures) ∙ c .before .enum-told .given .1) in
-    ((f .is-sized, f .is-key, f .t-bits, f .q-words, f .Δ-words), (f .t-length, f .q-length, f .Δ-length, f .p-length))
+    let a = c .before .before .before .before .before .before .before .before .before .before .before .before .args in
+    let f = values-fine FIRST (a .key) (keySlices (a .h .now) (a .x .now) (a .y .now)) (a .t .now) (a .q .now) (a .delta .now) (a .values .now) (sym (c .before .before .before .values-refused .ensures) ∙ c .before .enum-told .given .1) in
+    ((f .is-sized, f .is-key, f .t-bits, f .q-words, f .Δ-words, f .is-target), (f .t-length, f .q-length, f .Δ-length, f .p-length))
 
 enum-told-2 : tie.Need-enum-told-2
 enum-told-2 c = search needs
@@ -29,8 +30,8 @@ same-length c = search needs
 returns : tie.Need-returns
 unfolding valuesOutcome
 returns c =
-    let a = c .before .before .before .before .before .before .before .before .before .before .before .before .before .before .args in
-    when-done (valuesRows (levelAt FIRST) (a .key) (a .h .now) (a .x .now) (a .t .now) (a .q .now) (a .delta .now) (a .values .now)) (valueWords (levelAt FIRST) (system (levelAt FIRST) (a .key) (a .h .now) (a .x .now)) (a .t .now) (a .q .now) (a .delta .now)) (a .values .now) (c .before .before .before .before .before .before .values-refused .ensures) (c .before .before .before .before .enum-told .given .1) (c .before .before .write-values .ensures)
+    let a = c .before .before .before .before .before .before .before .before .before .before .before .before .before .before .before .args in
+    when-done (valuesRows (levelAt FIRST) (a .key) (keySlices (a .h .now) (a .x .now) (a .y .now)) (a .t .now) (a .q .now) (a .delta .now) (a .values .now)) (valueWords (levelAt FIRST) (system (levelAt FIRST) (a .key) (keySlices (a .h .now) (a .x .now) (a .y .now))) (a .t .now) (a .q .now) (a .delta .now)) (a .values .now) (c .before .before .before .before .before .before .values-refused .ensures) (c .before .before .before .before .enum-told .given .1) (c .before .before .write-values .ensures)
 
 same-length-2 : tie.Need-same-length-2
 same-length-2 c = search needs
@@ -38,8 +39,8 @@ same-length-2 c = search needs
 returns-2 : tie.Need-returns-2
 unfolding valuesOutcome
 returns-2 c =
-    let a = c .before .before .before .before .before .before .before .before .before .before .args in
-    when-refused (valuesRows (levelAt FIRST) (a .key) (a .h .now) (a .x .now) (a .t .now) (a .q .now) (a .delta .now) (a .values .now)) (valueWords (levelAt FIRST) (system (levelAt FIRST) (a .key) (a .h .now) (a .x .now)) (a .t .now) (a .q .now) (a .delta .now)) (a .values .now) (c .before .before .values-refused .ensures) (c .enum-told2 .given .1)
+    let a = c .before .before .before .before .before .before .before .before .before .before .before .args in
+    when-refused (valuesRows (levelAt FIRST) (a .key) (keySlices (a .h .now) (a .x .now) (a .y .now)) (a .t .now) (a .q .now) (a .delta .now) (a .values .now)) (valueWords (levelAt FIRST) (system (levelAt FIRST) (a .key) (keySlices (a .h .now) (a .x .now) (a .y .now))) (a .t .now) (a .q .now) (a .delta .now)) (a .values .now) (c .before .before .values-refused .ensures) (c .enum-told2 .given .1)
 
 pub values-spec : {M : Type 1} → statement M
 values-spec =

@@ -27,10 +27,10 @@ same-length : tie.Need-same-length
 same-length c = search needs
 
 returns : tie.Need-returns
-returns c h x =
+returns c lent =
     let a = c .before .before .before .before .before .before .before .before .args in
     c .before .before .masked-witness .ensures ∙ ap (λ d. O.maskedWitness (a .key .n) d (a .positions .now) (a .u .now)) (c .before .before .before .degree .ensures)
-    ∙ masked-written (levelAt FIRST) (a .key .n) (a .key .m) h x (a .positions .now) (a .u .now) (c .before .before .before .before .before .before .before .before .pre .0 .1)
+    ∙ masked-written (levelAt FIRST) (a .key .n) (a .key .m) lent (a .positions .now) (a .u .now) (c .before .before .before .before .before .before .before .before .pre .0 .1)
 
 pub write-masked-witness-spec : {M : Type 1} → statement M
 write-masked-witness-spec = tie.close (tie.spec degree-requires masked-witness-requires same-length returns)

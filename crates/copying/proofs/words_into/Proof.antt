@@ -62,7 +62,7 @@ returns c =
     let all = words (a .c .now) in
     let size : length all ≡ l .i = omega (arith, words-half (a .c .now)) in
     let whole = l .inv .3 ∙ put-pasted 0 (l .i) all (a .out .now) size in
-    (ap (take (l .i)) whole ∙ take-at all (drop (0 + length all) (a .out .now)) (l .i) size, omega arith, sym (length-take-le (l .i) (l .out) (omega arith)))
+    (ap (take (l .i)) whole ∙ take-at all (drop (0 + length all) (a .out .now)) (l .i) size, omega arith, sym (length-take-le (l .i) (l .out) (omega arith)), whole)
 
 pub words-into-spec : {M : Type 1} → statement M
 words-into-spec =

@@ -1,6 +1,6 @@
-use Prim.Native.Nat.{_*_}
+use Prim.Native.Nat.{ℕ, _*_}
 use mathlib.Core.Path.{sym, ap, _∙_}
-use mathlib.Core.List.{[], _∷_}
+use mathlib.Core.List.{List, [], _∷_, _++_}
 use native.Mathlib.Omega.{arith}
 use borrow.Author.Needs.{needs}
 use Rattle.refusal.specs.Answer.{firstOf}
@@ -10,10 +10,11 @@ use Rattle.key.specs.declared.Key.{Key}
 use Rattle.key.specs.declared.Lengths.{Lengths}
 use Rattle.key.specs.Key.{Sized, lengths}
 use Rattle.layout.specs.declared.Row.{Row}
-use Rattle.layout.specs.declared.Kind.the-variants.{Elements}
+use Rattle.layout.specs.declared.Kind.the-variants.{Elements, Target}
+use Rattle.layout.specs.Layout.{optional}
 use Rattle.layout.specs.Tests.{keyOf, tests, after}
 use Rattle.layout.specs.Steps.{outcome, further}
-use Rattle.layout.proofs.Rows.{step-next, outcome-more}
+use Rattle.layout.proofs.Rows.{step-next, outcome-then, outcome-more}
 use Rattle.layout.proofs.Files.{sizesRow, first-sized}
 use Rattle.layout.proofs.Bounds.{Bounds, bounds}
 use Rattle.layout.proofs.read_key.Statement.{statement}
@@ -25,6 +26,16 @@ hRow n = record { tag = 0x02; len = 2 * n .matrix; kind = Elements }
 
 abbrev xRow : Lengths → Row
 xRow n = record { tag = 0x03; len = 2 * n .vector; kind = Elements }
+
+abbrev yRow : Lengths → Row
+yRow n = record { tag = 0x04; len = 2 * n .target; kind = Target }
+
+-- y follows these three where its tag does
+abbrev firstOnes : Lengths → List Row
+firstOnes n = sizesRow ∷ hRow n ∷ xRow n ∷ []
+
+abbrev mayFollow : List ℕ → Lengths → List Row
+mayFollow s n = optional s (after 0 (firstOnes n)) (yRow n)
 
 -- field 01 was not refused, so its content is sizes
 is-sized : (c : tie.After-key-at) → Sized (levelAt FIRST) (c .key-at .result)
@@ -48,7 +59,8 @@ returns c =
     let g = c .before .before in
     let s = g .before .before .args .s .now in
     let n = lengths (levelAt FIRST) (keyOf s) in
-    outcome-more (levelAt FIRST) s 0 (sizesRow ∷ []) (hRow n ∷ xRow n ∷ []) (g .read-row .ensures) (c .enum-told .given .1 ∙ ap (λ r. further r (λ p. outcome (levelAt FIRST) s p (hRow n ∷ xRow n ∷ []))) (sym (c .enum-told .given .1)))
+    let others = hRow n ∷ xRow n ∷ mayFollow s n in
+    outcome-more (levelAt FIRST) s 0 (sizesRow ∷ []) others (g .read-row .ensures) (c .enum-told .given .1 ∙ ap (λ r. further r (λ p. outcome (levelAt FIRST) s p others)) (sym (c .enum-told .given .1)))
 
 enum-told-2 : tie.Need-enum-told-2
 enum-told-2 c = search needs
@@ -59,11 +71,14 @@ key-at-requires c κs = search needs
 lengths-requires : tie.Need-lengths-requires
 lengths-requires c κs = is-sized c
 
-mul-t10 : tie.Need-mul-t10
-mul-t10 c = omega (arith, bound (c .before) .matrix)
+mul-t12 : tie.Need-mul-t12
+mul-t12 c = omega (arith, bound (c .before) .matrix)
 
-mul-t10-2 : tie.Need-mul-t10-2
-mul-t10-2 c = omega (arith, bound (c .before .before) .vector)
+mul-t12-2 : tie.Need-mul-t12-2
+mul-t12-2 c = omega (arith, bound (c .before .before) .vector)
+
+mul-t12-3 : tie.Need-mul-t12-3
+mul-t12-3 c = omega (arith, bound (c .before .before .before) .target)
 
 read-row-requires-2 : tie.Need-read-row-requires-2
 read-row-requires-2 c κs = search needs
@@ -71,16 +86,20 @@ read-row-requires-2 c κs = search needs
 read-row-requires-3 : tie.Need-read-row-requires-3
 read-row-requires-3 c κs = search needs
 
+read-optional-requires : tie.Need-read-optional-requires
+read-optional-requires c κs = search needs
+
 returns-2 : tie.Need-returns-2
 returns-2 c =
-    let g = c .before .before .before .before in
+    let g = c .before .before .before .before .before .before in
     let k = g .before in
     let t = k .before in
     let s = t .before .before .before .before .args .s .now in
     let n = g .lengths .result in
-    let second = outcome-more (levelAt FIRST) s 0 (sizesRow ∷ []) (hRow n ∷ []) (t .before .before .read-row .ensures) (c .before .read-row2 .ensures) in
-    outcome-more (levelAt FIRST) s 0 (sizesRow ∷ hRow n ∷ []) (xRow n ∷ []) second (c .read-row3 .ensures)
-    ∙ ap (λ (n : Lengths). outcome (levelAt FIRST) s 0 (sizesRow ∷ hRow n ∷ xRow n ∷ [])) (g .lengths .ensures ∙ ap (λ (key : Key). lengths (levelAt FIRST) key) (k .key-at .ensures))
+    let second = outcome-more (levelAt FIRST) s 0 (sizesRow ∷ []) (hRow n ∷ []) (t .before .before .read-row .ensures) (c .before .before .read-row2 .ensures) in
+    let third = outcome-more (levelAt FIRST) s 0 (sizesRow ∷ hRow n ∷ []) (xRow n ∷ []) second (c .before .read-row3 .ensures) in
+    outcome-then (levelAt FIRST) s 0 (firstOnes n) (λ p. optional s p (yRow n)) third (c .read-optional .ensures)
+    ∙ ap (λ (n : Lengths). outcome (levelAt FIRST) s 0 (firstOnes n ++ mayFollow s n)) (g .lengths .ensures ∙ ap (λ (key : Key). lengths (levelAt FIRST) key) (k .key-at .ensures))
 
 pub read-key-spec : {M : Type 1} → statement M
 read-key-spec =
@@ -92,8 +111,10 @@ read-key-spec =
     enum-told-2
     key-at-requires
     lengths-requires
-    mul-t10
-    mul-t10-2
+    mul-t12
+    mul-t12-2
+    mul-t12-3
     read-row-requires-2
     read-row-requires-3
+    read-optional-requires
     returns-2)

@@ -9,6 +9,7 @@ use Rattle.refusal.specs.declared.Answer.the-variants.{Done}
 use Rattle.refusal.proofs.Answers.{when-numbered}
 use Rattle.field.specs.declared.Level.{Level}
 use Rattle.key.specs.declared.Key.{Key}
+use Rattle.key.specs.Key.{KeySlices}
 use Rattle.prover.specs.Entry.{proveRows, topsRow, proveOutcome}
 use Rattle.prover.specs.Solved.{Solved}
 use Rattle.perk.proofs.Numbers.{told-done, told-refusal, both}
@@ -28,20 +29,20 @@ same-length c = search needs
 same-length-2 : tie.Need-same-length-2
 same-length-2 c = search needs
 
-done : (l : Level) (key : Key) (h x positions u v r s α t a : List ℕ) {o : Answer} {left : List ℕ × List ℕ} {k : ℕ} → (o, left) ≡ proveOutcome l key h x positions u v r s α t a → k ≡ numberOf o → (k ≡ 0) ↔ (o ≡ Done)
+done : (l : Level) (key : Key) (lent : KeySlices) (positions u v r s α t a : List ℕ) {o : Answer} {left : List ℕ × List ℕ} {k : ℕ} → (o, left) ≡ proveOutcome l key lent positions u v r s α t a → k ≡ numberOf o → (k ≡ 0) ↔ (o ≡ Done)
 unfolding proveOutcome
-done l key h x positions u v r s α t a e n =
-    told-done n (proveRows l key h x positions u v r s α t a ++ topsRow l key h x positions v) (omega arith, omega arith, (omega arith, omega arith, (omega arith, omega arith, (omega arith, omega arith, (omega arith, omega arith, (omega arith, omega arith, (omega arith, omega arith, (omega arith, omega arith, (omega arith, omega arith, (omega arith, omega arith, tt)))))))))) (ap (λ (o : Answer × (List ℕ × List ℕ)). o .0) e)
+done l key lent positions u v r s α t a e n =
+    told-done n (proveRows l key lent positions u v r s α t a ++ topsRow l key lent positions v) (omega arith, omega arith, (omega arith, omega arith, (omega arith, omega arith, (omega arith, omega arith, (omega arith, omega arith, (omega arith, omega arith, (omega arith, omega arith, (omega arith, omega arith, (omega arith, omega arith, (omega arith, omega arith, tt)))))))))) (ap (λ (o : Answer × (List ℕ × List ℕ)). o .0) e)
 
-solved : (l : Level) (key : Key) (h x positions u v r s α t a : List ℕ) {o : Answer} {left : List ℕ × List ℕ} {k : ℕ} → (o, left) ≡ proveOutcome l key h x positions u v r s α t a → k ≡ numberOf o
-    → Solved l key h x positions u v r s α t a (o ≡ Done) (o ≡ refusal 8) → Solved l key h x positions u v r s α t a (k ≡ 0) (k ≡ 8)
-solved l key h x positions u v r s α t a e n known =
-    record { done = both (done l key h x positions u v r s α t a e n) (known .done); eight = both (told-refusal n 8 (omega arith)) (known .eight) }
+solved : (l : Level) (key : Key) (lent : KeySlices) (positions u v r s α t a : List ℕ) {o : Answer} {left : List ℕ × List ℕ} {k : ℕ} → (o, left) ≡ proveOutcome l key lent positions u v r s α t a → k ≡ numberOf o
+    → Solved l key lent positions u v r s α t a (o ≡ Done) (o ≡ refusal 8) → Solved l key lent positions u v r s α t a (k ≡ 0) (k ≡ 8)
+solved l key lent positions u v r s α t a e n known =
+    record { done = both (done l key lent positions u v r s α t a e n) (known .done); eight = both (told-refusal n 8 (omega arith)) (known .eight) }
 
 returns : tie.Need-returns
 returns c =
     let e = c .before .before .before .before .before .prove .ensures in
-    (when-numbered (e .0) (c .number .ensures), solved _ _ _ _ _ _ _ _ _ _ _ _ (e .0) (c .number .ensures) (e .1))
+    (when-numbered (e .0) (c .number .ensures), solved _ _ _ _ _ _ _ _ _ _ _ (e .0) (c .number .ensures) (e .1))
 
 pub perk-prove-spec : {M : Type 1} → statement M
 perk-prove-spec =

@@ -8,6 +8,7 @@ use Prim.Native.Nat.{ℕ}
 use native.Mathlib.Omega.{arith}
 use Rattle.field.specs.declared.Level.{Level}
 use Rattle.key.specs.declared.Key.{Key}
+use Rattle.key.specs.Key.{KeySlices}
 use Rattle.constraints.specs.Entry.{system}
 use Rattle.checkzero.specs.Slices.{accepts}
 use Rattle.verifier.specs.Entry.{verifyRows, verifyOutcome, Judges}
@@ -22,24 +23,24 @@ verify-requires c κs = search needs
 verdict-number-requires : tie.Need-verdict-number-requires
 verdict-number-requires c κs = search needs
 
-told : (l : Level) (key : Key) (h x t q Δ masks α a : List ℕ) {v : Verdict} {k : ℕ} → v ≡ verifyOutcome l key h x t q Δ masks α a → k ≡ verdictNumber v → ((k ≡ 0) ↔ (v ≡ Accepted)) × ((k ≡ 255) ↔ (v ≡ Rejected))
+told : (l : Level) (key : Key) (lent : KeySlices) (t q Δ masks α a : List ℕ) {v : Verdict} {k : ℕ} → v ≡ verifyOutcome l key lent t q Δ masks α a → k ≡ verdictNumber v → ((k ≡ 0) ↔ (v ≡ Accepted)) × ((k ≡ 255) ↔ (v ≡ Rejected))
 unfolding verifyOutcome
-told l key h x t q Δ masks α a e n =
-    let rows = verifyRows l key h x t q Δ masks α a in
+told l key lent t q Δ masks α a e n =
+    let rows = verifyRows l key lent t q Δ masks α a in
     let f : Refusals rows = (omega arith, omega arith, (omega arith, omega arith, (omega arith, omega arith, (omega arith, omega arith, (omega arith, omega arith, (omega arith, omega arith, (omega arith, omega arith, (omega arith, omega arith, (omega arith, omega arith, tt))))))))) in
-    let holds = accepts l (system l key h x) t q Δ masks α a in
+    let holds = accepts l (system l key lent) t q Δ masks α a in
     (told-accepted n rows f holds e, told-rejected n rows f holds e)
 
-judges : (l : Level) (key : Key) (h x t q Δ masks α a : List ℕ) {v : Verdict} {k : ℕ} → v ≡ verifyOutcome l key h x t q Δ masks α a → k ≡ verdictNumber v
-    → Judges l key h x t q Δ masks α a (v ≡ Accepted) (v ≡ Rejected) → (k ≡ verdictNumber (verifyOutcome l key h x t q Δ masks α a)) × Judges l key h x t q Δ masks α a (k ≡ 0) (k ≡ 255)
-judges l key h x t q Δ masks α a e n known =
-    let by = told l key h x t q Δ masks α a e n in
+judges : (l : Level) (key : Key) (lent : KeySlices) (t q Δ masks α a : List ℕ) {v : Verdict} {k : ℕ} → v ≡ verifyOutcome l key lent t q Δ masks α a → k ≡ verdictNumber v
+    → Judges l key lent t q Δ masks α a (v ≡ Accepted) (v ≡ Rejected) → (k ≡ verdictNumber (verifyOutcome l key lent t q Δ masks α a)) × Judges l key lent t q Δ masks α a (k ≡ 0) (k ≡ 255)
+judges l key lent t q Δ masks α a e n known =
+    let by = told l key lent t q Δ masks α a e n in
     (n ∙ ap verdictNumber e, record { accepted = both (by .0) (known .accepted); rejected = both (by .1) (known .rejected) })
 
 returns : tie.Need-returns
 returns c =
     let e = c .before .verify .ensures in
-    judges _ _ _ _ _ _ _ _ _ _ (e .0) (c .verdict-number .ensures) (e .1)
+    judges _ _ _ _ _ _ _ _ _ (e .0) (c .verdict-number .ensures) (e .1)
 
 pub perk-verify-spec : {M : Type 1} → statement M
 perk-verify-spec = tie.close (tie.spec verify-requires verdict-number-requires returns)

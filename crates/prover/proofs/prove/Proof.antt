@@ -3,6 +3,7 @@ use Rattle.refusal.specs.declared.Answer.{Answer}
 use Rattle.refusal.proofs.Answers.{when-refused, after-refused, decided-after}
 use Rattle.field.specs.Level.{FIRST, levelAt}
 use Rattle.prover.specs.Entry.{proveRows, topsRow, proveResult, proveOutcome}
+use Rattle.key.specs.Key.{keySlices}
 use Rattle.prover.proofs.Solved.{solved}
 use Prim.Native.Nat.{ℕ}
 use mathlib.Core.Path.{sym, ap, _∙_}
@@ -31,9 +32,9 @@ same-length-2 c = search needs
 returns : tie.Need-returns
 unfolding proveOutcome
 returns c =
-    let a = c .before .before .before .before .before .before .before .before .before .before .before .before .before .before .before .before .before .before .before .before .before .before .args in
-    let e = c .before .before .before .before .work .ensures ∙ decided-after (proveRows (levelAt FIRST) (a .key) (a .h .now) (a .x .now) (a .positions .now) (a .u .now) (a .v .now) (a .r .now) (a .s .now) (a .alpha .now) (a .t .now) (a .a .now)) (topsRow (levelAt FIRST) (a .key) (a .h .now) (a .x .now) (a .positions .now) (a .v .now)) (proveResult (levelAt FIRST) (a .key) (a .h .now) (a .x .now) (a .positions .now) (a .u .now) (a .v .now) (a .r .now) (a .s .now) (a .alpha .now)) (a .t .now, a .a .now) (sym (c .before .before .before .before .before .before .before .before .before .refused .ensures) ∙ c .before .before .before .before .before .before .before .enum-told .given .1) in
-    (e, solved FIRST (a .key) (a .h .now) (a .x .now) (a .positions .now) (a .u .now) (a .v .now) (a .r .now) (a .s .now) (a .alpha .now) (a .t .now) (a .a .now) (ap (λ (o : Answer × (List ℕ × List ℕ)). o .0) e))
+    let a = c .before .before .before .before .before .before .before .before .before .before .before .before .before .before .before .before .before .before .before .before .before .before .before .args in
+    let e = c .before .before .before .before .work .ensures ∙ decided-after (proveRows (levelAt FIRST) (a .key) (keySlices (a .h .now) (a .x .now) (a .y .now)) (a .positions .now) (a .u .now) (a .v .now) (a .r .now) (a .s .now) (a .alpha .now) (a .t .now) (a .a .now)) (topsRow (levelAt FIRST) (a .key) (keySlices (a .h .now) (a .x .now) (a .y .now)) (a .positions .now) (a .v .now)) (proveResult (levelAt FIRST) (a .key) (keySlices (a .h .now) (a .x .now) (a .y .now)) (a .positions .now) (a .u .now) (a .v .now) (a .r .now) (a .s .now) (a .alpha .now)) (a .t .now, a .a .now) (sym (c .before .before .before .before .before .before .before .before .before .refused .ensures) ∙ c .before .before .before .before .before .before .before .enum-told .given .1) in
+    (e, solved FIRST (a .key) (keySlices (a .h .now) (a .x .now) (a .y .now)) (a .positions .now) (a .u .now) (a .v .now) (a .r .now) (a .s .now) (a .alpha .now) (a .t .now) (a .a .now) (ap (λ (o : Answer × (List ℕ × List ℕ)). o .0) e))
 
 same-length-3 : tie.Need-same-length-3
 same-length-3 c = search needs
@@ -44,9 +45,9 @@ same-length-4 c = search needs
 returns-2 : tie.Need-returns-2
 unfolding proveOutcome
 returns-2 c =
-    let a = c .before .before .before .before .before .before .before .before .before .before .before .before .before .before .before .args in
-    let e = after-refused (proveRows (levelAt FIRST) (a .key) (a .h .now) (a .x .now) (a .positions .now) (a .u .now) (a .v .now) (a .r .now) (a .s .now) (a .alpha .now) (a .t .now) (a .a .now)) (topsRow (levelAt FIRST) (a .key) (a .h .now) (a .x .now) (a .positions .now) (a .v .now)) (c .before .before .refused .ensures) (c .enum-told2 .given .1) in
-    (when-refused (proveRows (levelAt FIRST) (a .key) (a .h .now) (a .x .now) (a .positions .now) (a .u .now) (a .v .now) (a .r .now) (a .s .now) (a .alpha .now) (a .t .now) (a .a .now) ++ topsRow (levelAt FIRST) (a .key) (a .h .now) (a .x .now) (a .positions .now) (a .v .now)) (proveResult (levelAt FIRST) (a .key) (a .h .now) (a .x .now) (a .positions .now) (a .u .now) (a .v .now) (a .r .now) (a .s .now) (a .alpha .now)) (a .t .now, a .a .now) e (c .enum-told2 .given .1), solved FIRST (a .key) (a .h .now) (a .x .now) (a .positions .now) (a .u .now) (a .v .now) (a .r .now) (a .s .now) (a .alpha .now) (a .t .now) (a .a .now) e)
+    let a = c .before .before .before .before .before .before .before .before .before .before .before .before .before .before .before .before .args in
+    let e = after-refused (proveRows (levelAt FIRST) (a .key) (keySlices (a .h .now) (a .x .now) (a .y .now)) (a .positions .now) (a .u .now) (a .v .now) (a .r .now) (a .s .now) (a .alpha .now) (a .t .now) (a .a .now)) (topsRow (levelAt FIRST) (a .key) (keySlices (a .h .now) (a .x .now) (a .y .now)) (a .positions .now) (a .v .now)) (c .before .before .refused .ensures) (c .enum-told2 .given .1) in
+    (when-refused (proveRows (levelAt FIRST) (a .key) (keySlices (a .h .now) (a .x .now) (a .y .now)) (a .positions .now) (a .u .now) (a .v .now) (a .r .now) (a .s .now) (a .alpha .now) (a .t .now) (a .a .now) ++ topsRow (levelAt FIRST) (a .key) (keySlices (a .h .now) (a .x .now) (a .y .now)) (a .positions .now) (a .v .now)) (proveResult (levelAt FIRST) (a .key) (keySlices (a .h .now) (a .x .now) (a .y .now)) (a .positions .now) (a .u .now) (a .v .now) (a .r .now) (a .s .now) (a .alpha .now)) (a .t .now, a .a .now) e (c .enum-told2 .given .1), solved FIRST (a .key) (keySlices (a .h .now) (a .x .now) (a .y .now)) (a .positions .now) (a .u .now) (a .v .now) (a .r .now) (a .s .now) (a .alpha .now) (a .t .now) (a .a .now) e)
 
 pub prove-spec : {M : Type 1} → statement M
 prove-spec =

@@ -6,7 +6,7 @@ use Rattle.refusal.specs.declared.Answer.the-variants.{Done}
 use Rattle.refusal.proofs.Answers.{after-refused, none}
 use Rattle.field.specs.Level.{FIRST, levelAt}
 use Rattle.field.proofs.Fields.{bounded}
-use Rattle.key.specs.Key.{degree, lengths, sizes, Sized, below, withins, checks}
+use Rattle.key.specs.Key.{keySlices, keyWithin, degree, lengths, sizes, Sized, below, withins, checks}
 use Rattle.key.proofs.Sized.{sized, degree-lt}
 use Rattle.key.proofs.Fine.{withins-more, withins-last}
 use Rattle.key.proofs.Checked.{told, told-length}
@@ -18,11 +18,11 @@ use Rattle.prover.proofs.refused.Statement.{statement}
 use Rattle.prover.proofs.refused.Tie as tie
 
 -- past the sizes
-passed : (c : tie.After-enum-told2) → firstOf (sizes (levelAt FIRST) (c .before .before .before .before .before .before .before .before .before .before .before .before .before .args .key)) ≡ Done
+passed : (c : tie.After-enum-told2) → firstOf (sizes (levelAt FIRST) (c .before .before .before .before .before .before .before .before .before .before .before .before .before .before .args .key)) ≡ Done
 passed c = sym (c .before .before .sizes .ensures) ∙ c .enum-told2 .given .1
 
-is-sized : (c : tie.After-enum-told2) → Sized (levelAt FIRST) (c .before .before .before .before .before .before .before .before .before .before .before .before .before .args .key)
-is-sized c = let k = c .before .before .before .before .before .before .before .before .before .before .before .before .before .args .key in sized (levelAt FIRST) k (none (sizes (levelAt FIRST) k) (passed c))
+is-sized : (c : tie.After-enum-told2) → Sized (levelAt FIRST) (c .before .before .before .before .before .before .before .before .before .before .before .before .before .before .args .key)
+is-sized c = let k = c .before .before .before .before .before .before .before .before .before .before .before .before .before .before .args .key in sized (levelAt FIRST) k (none (sizes (levelAt FIRST) k) (passed c))
 
 sizes-requires : tie.Need-sizes-requires
 sizes-requires c κs = search needs
@@ -32,8 +32,8 @@ enum-told c = search needs
 
 returns : tie.Need-returns
 returns c =
-    let a = c .before .before .before .before .before .before .before .before .before .before .before .before .before .args in
-    after-refused (sizes (levelAt FIRST) (a .key)) (checks (long (proveLent (lengths (levelAt FIRST) (a .key)) (a .h .now) (a .x .now) (a .positions .now) (a .u .now) (a .v .now) (a .r .now) (a .s .now) (a .alpha .now) (a .t .now) (a .a .now))) (withins (levelAt FIRST) (a .h .now ∷ a .x .now ∷ [])) (below 1 (a .u .now)) (withins (levelAt FIRST) (a .v .now ∷ a .r .now ∷ a .s .now ∷ a .alpha .now ∷ [])) (below (degree (a .key .n)) (a .positions .now))) (c .before .before .sizes .ensures) (c .enum-told .given .1)
+    let a = c .before .before .before .before .before .before .before .before .before .before .before .before .before .before .args in
+    after-refused (sizes (levelAt FIRST) (a .key)) (checks (long (proveLent (lengths (levelAt FIRST) (a .key)) (keySlices (a .h .now) (a .x .now) (a .y .now)) (a .positions .now) (a .u .now) (a .v .now) (a .r .now) (a .s .now) (a .alpha .now) (a .t .now) (a .a .now))) (keyWithin (levelAt FIRST) (keySlices (a .h .now) (a .x .now) (a .y .now))) (below 1 (a .u .now)) (withins (levelAt FIRST) (a .v .now ∷ a .r .now ∷ a .s .now ∷ a .alpha .now ∷ [])) (below (degree (a .key .n)) (a .positions .now))) (c .before .before .sizes .ensures) (c .enum-told .given .1)
 
 enum-told-2 : tie.Need-enum-told-2
 enum-told-2 c = search needs
@@ -43,8 +43,8 @@ lengths-requires c κs = is-sized c
 
 returns-2 : tie.Need-returns-2
 returns-2 c =
-    let a = c .before .before .before .before .before .before .before .before .before .before .before .before .before .before .before .args in
-    told-length (levelAt FIRST) (a .key) (long (proveLent (lengths (levelAt FIRST) (a .key)) (a .h .now) (a .x .now) (a .positions .now) (a .u .now) (a .v .now) (a .r .now) (a .s .now) (a .alpha .now) (a .t .now) (a .a .now))) (withins (levelAt FIRST) (a .h .now ∷ a .x .now ∷ [])) (below 1 (a .u .now)) (withins (levelAt FIRST) (a .v .now ∷ a .r .now ∷ a .s .now ∷ a .alpha .now ∷ [])) (below (degree (a .key .n)) (a .positions .now))
+    let a = c .before .before .before .before .before .before .before .before .before .before .before .before .before .before .before .before .args in
+    told-length (levelAt FIRST) (a .key) (long (proveLent (lengths (levelAt FIRST) (a .key)) (keySlices (a .h .now) (a .x .now) (a .y .now)) (a .positions .now) (a .u .now) (a .v .now) (a .r .now) (a .s .now) (a .alpha .now) (a .t .now) (a .a .now))) (keyWithin (levelAt FIRST) (keySlices (a .h .now) (a .x .now) (a .y .now))) (below 1 (a .u .now)) (withins (levelAt FIRST) (a .v .now ∷ a .r .now ∷ a .s .now ∷ a .alpha .now ∷ [])) (below (degree (a .key .n)) (a .positions .now))
     (passed (c .before .before)) (c .before .lengths .result) (c .before .lengths .ensures) (c .if1 .taken)
 
 excess-requires : tie.Need-excess-requires
@@ -62,15 +62,12 @@ excess-requires-4 c κs = search needs
 excess-requires-5 : tie.Need-excess-requires-5
 excess-requires-5 c κs = search needs
 
-excess-requires-6 : tie.Need-excess-requires-6
-excess-requires-6 c κs = search needs
-
 degree-requires : tie.Need-degree-requires
-degree-requires c κs = omega (arith, is-sized (c .before .before .before .before .before .before .before .before) .two)
+degree-requires c κs = omega (arith, is-sized (c .before .before .before .before .before .before .before) .two)
 
 over-requires : tie.Need-over-requires
 over-requires c κs =
-    let s = is-sized (c .before .before .before .before .before .before .before .before .before) in
+    let s = is-sized (c .before .before .before .before .before .before .before .before) in
     let b = bounded FIRST in
     omega (arith, c .degree .ensures, degree-lt (c .before .before .before .before .before .before .before .before .before .before .before .before .before .before .before .before .before .before .before .before .before .before .args .key .n) 8 (omega (arith, s .two)) (omega (arith, s .most, b .most)) (omega (arith, s .most, b .most)))
 
@@ -83,11 +80,11 @@ contents-requires c κs = search needs
 returns-3 : tie.Need-returns-3
 returns-3 c =
     let a = c .before .before .before .before .before .before .before .before .before .before .before .before .before .before .before .before .before .before .before .before .before .before .before .before .before .args in
-    told (levelAt FIRST) (a .key) (long (proveLent (lengths (levelAt FIRST) (a .key)) (a .h .now) (a .x .now) (a .positions .now) (a .u .now) (a .v .now) (a .r .now) (a .s .now) (a .alpha .now) (a .t .now) (a .a .now))) (withins (levelAt FIRST) (a .h .now ∷ a .x .now ∷ [])) (below 1 (a .u .now)) (withins (levelAt FIRST) (a .v .now ∷ a .r .now ∷ a .s .now ∷ a .alpha .now ∷ [])) (below (degree (a .key .n)) (a .positions .now))
-    (passed (c .before .before .before .before .before .before .before .before .before .before .before .before)) (c .before .before .before .before .before .before .before .before .before .before .before .lengths .result) (c .before .before .before .before .before .before .before .before .before .before .before .lengths .ensures) (c .before .before .before .before .before .before .before .before .before .before .if1 .left) (c .contents .ensures)
-    (withins-more (levelAt FIRST) (a .h .now) (a .x .now ∷ []) (c .before .before .before .before .before .before .before .before .before .excess .result) (c .before .before .before .before .before .before .before .before .excess2 .result) (c .before .before .before .before .before .before .before .before .before .excess .ensures) (withins-last (levelAt FIRST) (a .x .now) (c .before .before .before .before .before .before .before .before .excess2 .result) (c .before .before .before .before .before .before .before .before .excess2 .ensures)))
+    told (levelAt FIRST) (a .key) (long (proveLent (lengths (levelAt FIRST) (a .key)) (keySlices (a .h .now) (a .x .now) (a .y .now)) (a .positions .now) (a .u .now) (a .v .now) (a .r .now) (a .s .now) (a .alpha .now) (a .t .now) (a .a .now))) (keyWithin (levelAt FIRST) (keySlices (a .h .now) (a .x .now) (a .y .now))) (below 1 (a .u .now)) (withins (levelAt FIRST) (a .v .now ∷ a .r .now ∷ a .s .now ∷ a .alpha .now ∷ [])) (below (degree (a .key .n)) (a .positions .now))
+    (passed (c .before .before .before .before .before .before .before .before .before .before .before)) (c .before .before .before .before .before .before .before .before .before .before .lengths .result) (c .before .before .before .before .before .before .before .before .before .before .lengths .ensures) (c .before .before .before .before .before .before .before .before .before .if1 .left) (c .contents .ensures)
+    (c .before .before .before .before .before .before .before .before .excess .ensures)
     (c .before .over2 .ensures)
-    (withins-more (levelAt FIRST) (a .v .now) (a .r .now ∷ a .s .now ∷ a .alpha .now ∷ []) (c .before .before .before .before .before .before .before .excess3 .result) (bitOr (c .before .before .before .before .before .before .excess4 .result) (bitOr (c .before .before .before .before .before .excess5 .result) (c .before .before .before .before .excess6 .result))) (c .before .before .before .before .before .before .before .excess3 .ensures) (withins-more (levelAt FIRST) (a .r .now) (a .s .now ∷ a .alpha .now ∷ []) (c .before .before .before .before .before .before .excess4 .result) (bitOr (c .before .before .before .before .before .excess5 .result) (c .before .before .before .before .excess6 .result)) (c .before .before .before .before .before .before .excess4 .ensures) (withins-more (levelAt FIRST) (a .s .now) (a .alpha .now ∷ []) (c .before .before .before .before .before .excess5 .result) (c .before .before .before .before .excess6 .result) (c .before .before .before .before .before .excess5 .ensures) (withins-last (levelAt FIRST) (a .alpha .now) (c .before .before .before .before .excess6 .result) (c .before .before .before .before .excess6 .ensures)))))
+    (withins-more (levelAt FIRST) (a .v .now) (a .r .now ∷ a .s .now ∷ a .alpha .now ∷ []) (c .before .before .before .before .before .before .before .excess2 .result) (bitOr (c .before .before .before .before .before .before .excess3 .result) (bitOr (c .before .before .before .before .before .excess4 .result) (c .before .before .before .before .excess5 .result))) (c .before .before .before .before .before .before .before .excess2 .ensures) (withins-more (levelAt FIRST) (a .r .now) (a .s .now ∷ a .alpha .now ∷ []) (c .before .before .before .before .before .before .excess3 .result) (bitOr (c .before .before .before .before .before .excess4 .result) (c .before .before .before .before .excess5 .result)) (c .before .before .before .before .before .before .excess3 .ensures) (withins-more (levelAt FIRST) (a .s .now) (a .alpha .now ∷ []) (c .before .before .before .before .before .excess4 .result) (c .before .before .before .before .excess5 .result) (c .before .before .before .before .before .excess4 .ensures) (withins-last (levelAt FIRST) (a .alpha .now) (c .before .before .before .before .excess5 .result) (c .before .before .before .before .excess5 .ensures)))))
     (c .before .before .over .ensures ∙ ap (λ d. below d (a .positions .now)) (c .before .before .before .degree .ensures))
 
 pub refused-spec : {M : Type 1} → statement M
@@ -105,7 +102,6 @@ refused-spec =
     excess-requires-3
     excess-requires-4
     excess-requires-5
-    excess-requires-6
     degree-requires
     over-requires
     over-requires-2

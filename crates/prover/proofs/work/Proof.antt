@@ -1,5 +1,6 @@
 use borrow.Author.Needs.{needs}
 use Rattle.row.proofs.ListLaws.{blanks-length}
+use Rattle.key.specs.Key.{keySlices}
 use Rattle.prover.proofs.work.Statement.{statement}
 use Rattle.prover.proofs.work.Tie as tie
 
@@ -10,7 +11,7 @@ slice-aggregate-weigh-2 : tie.Need-slice-aggregate-weigh-2
 slice-aggregate-weigh-2 c = search needs
 
 weigh-requires : tie.Need-weigh-requires
-weigh-requires c κs = (c .before .before .before .before .before .before .before .before .before .before .before .before .before .before .pre, (blanks-length 1524, blanks-length 5376))
+weigh-requires c κs = (c .before .before .before .before .before .before .before .before .before .before .before .before .before .before .before .pre, (blanks-length 1524, blanks-length 5376))
 
 same-length : tie.Need-same-length
 same-length c = search needs

@@ -7,7 +7,7 @@ use lib.ListN.{length}
 use Rattle.field.specs.Level.{levelAt, K}
 use Rattle.field.specs.declared.Level.{Level}
 use Rattle.row.specs.Lent.{smallOf, entryOf, digitOf, elementOf}
-use Rattle.row.specs.Step.{Step, Shared, AddedDown}
+use Rattle.row.specs.Step.{Shared}
 use Rattle.row.specs.Polynomial.{z, column, check}
 use Rattle.row.specs.Elements.{el, Fits, Words}
 use Rattle.row.proofs.ElementLaws.{fits-le, fits-all, holds-value, holds-held, cleared-words, cleared-el}
@@ -20,12 +20,12 @@ use Rattle.rows.proofs.polynomials.Statement.{statement}
 use Rattle.rows.proofs.polynomials.Tie as tie
 
 abbrev Inv-loop : tie.InvT-loop
-Inv-loop dst₀ n m d h x positions offsets work₀ level at₀ i₀ dst work at i =
+Inv-loop dst₀ n m d h x y positions offsets work₀ level at₀ i₀ dst work at i =
     (i ≤ n) × (at ≡ d * i) × (length dst ≡ length dst₀) × (length work ≡ length work₀) × Words (levelAt level) dst × Words (levelAt level) work
     × Rows (K (levelAt level)) n m (d + 1) (λ r. z (K (levelAt level)) d (digitOf d positions r) (elementOf (levelAt level) d offsets r)) (smallOf (levelAt level) x) (entryOf (levelAt level) n h) (el (levelAt level) dst) i
 
 abbrev μ-loop : tie.MeasureT-loop
-μ-loop dst₀ n m d h x positions offsets work₀ level at₀ i₀ dst work at i = n - i
+μ-loop dst₀ n m d h x y positions offsets work₀ level at₀ i₀ dst work at i = n - i
 
 abbrev L : tie.Start Inv-loop μ-loop → Level
 L s = levelAt (s .args .level)
@@ -35,6 +35,9 @@ terms s r = z (K (L s)) (s .args .d) (digitOf (s .args .d) (s .args .positions .
 
 abbrev factors : (s : tie.Start Inv-loop μ-loop) → ℕ → K (L s) .Carrier
 factors s = smallOf (L s) (s .args .x .now)
+
+abbrev targets : (s : tie.Start Inv-loop μ-loop) → ℕ → K (L s) .Carrier
+targets s = smallOf (L s) (s .args .y .now)
 
 abbrev entries : (s : tie.Start Inv-loop μ-loop) → ℕ → ℕ → K (L s) .Carrier
 entries s = entryOf (L s) (s .args .n) (s .args .h .now)
@@ -51,7 +54,7 @@ clear-requires-2 c κs = search needs
 
 loop-holds : tie.Need-loop-holds Inv-loop μ-loop
 loop-holds c =
-    let s = c .before .before .before .before .before .before .before .before .before .before .before .before .before .before in
+    let s = c .before .before .before .before .before .before .before .before .before .before .before .before .before .before .before in
     let o = c .before .before .before .before .before .before .clear in (
       omega arith,
       sym (mul-zero (s .args .d)),
@@ -63,24 +66,24 @@ loop-holds c =
     )
 
 -- the slices are as long as at entry
-dst-length : (c : tie.At-loop Inv-loop μ-loop) → length (c .loop .dst) ≡ length (c .before .before .before .before .before .before .before .before .before .before .before .before .before .before .before .args .dst .now)
-dst-length c = c .loop .inv .2 ∙ ap length (c .before .before .before .before .before .before .before .clear .ensures) ∙ blanks-length (length (c .before .before .before .before .before .before .before .before .before .before .before .before .before .before .before .args .dst .now))
+dst-length : (c : tie.At-loop Inv-loop μ-loop) → length (c .loop .dst) ≡ length (c .before .before .before .before .before .before .before .before .before .before .before .before .before .before .before .before .args .dst .now)
+dst-length c = c .loop .inv .2 ∙ ap length (c .before .before .before .before .before .before .before .clear .ensures) ∙ blanks-length (length (c .before .before .before .before .before .before .before .before .before .before .before .before .before .before .before .before .args .dst .now))
 
-work-length : (c : tie.At-loop Inv-loop μ-loop) → length (c .loop .work) ≡ length (c .before .before .before .before .before .before .before .before .before .before .before .before .before .before .before .args .work .now)
-work-length c = c .loop .inv .3 ∙ ap length (c .before .before .before .clear2 .ensures) ∙ blanks-length (length (c .before .before .before .before .before .before .before .before .before .before .before .before .before .before .before .args .work .now))
+work-length : (c : tie.At-loop Inv-loop μ-loop) → length (c .loop .work) ≡ length (c .before .before .before .before .before .before .before .before .before .before .before .before .before .before .before .before .args .work .now)
+work-length c = c .loop .inv .3 ∙ ap length (c .before .before .before .clear2 .ensures) ∙ blanks-length (length (c .before .before .before .before .before .before .before .before .before .before .before .before .before .before .before .before .args .work .now))
 
-inside : (c : tie.In-loop Inv-loop μ-loop) → c .before .loop .at + c .before .before .before .before .before .before .before .before .before .before .before .before .before .before .before .before .args .d ≤ c .before .before .before .before .before .before .before .before .before .before .before .before .before .before .before .before .args .d * c .before .before .before .before .before .before .before .before .before .before .before .before .before .before .before .before .args .n
-inside c = omega (arith, c .before .loop .inv .1, row-le (c .before .before .before .before .before .before .before .before .before .before .before .before .before .before .before .before .args .d) (c .before .loop .i) (c .before .before .before .before .before .before .before .before .before .before .before .before .before .before .before .before .args .n) (c .loop-test .taken))
+inside : (c : tie.In-loop Inv-loop μ-loop) → c .before .loop .at + c .before .before .before .before .before .before .before .before .before .before .before .before .before .before .before .before .before .args .d ≤ c .before .before .before .before .before .before .before .before .before .before .before .before .before .before .before .before .before .args .d * c .before .before .before .before .before .before .before .before .before .before .before .before .before .before .before .before .before .args .n
+inside c = omega (arith, c .before .loop .inv .1, row-le (c .before .before .before .before .before .before .before .before .before .before .before .before .before .before .before .before .before .args .d) (c .before .loop .i) (c .before .before .before .before .before .before .before .before .before .before .before .before .before .before .before .before .before .args .n) (c .loop-test .taken))
 
 shared-slice-read-position : tie.Need-shared-slice-read-position Inv-loop μ-loop
-shared-slice-read-position c = omega (arith, c .before .before .before .before .before .before .before .before .before .before .before .before .before .before .before .before .before .pre .1 .0, c .before .loop-test .taken)
+shared-slice-read-position c = omega (arith, c .before .before .before .before .before .before .before .before .before .before .before .before .before .before .before .before .before .before .pre .1 .0, c .before .loop-test .taken)
 
 cast-position : tie.Need-cast-position Inv-loop μ-loop
-cast-position c = omega (arith, c .shared-slice-known5 .given (c .before .before .loop .i))
+cast-position c = omega (arith, c .shared-slice-known6 .given (c .before .before .loop .i))
 
 row-requires : tie.Need-row-requires Inv-loop μ-loop
 row-requires c κs =
-    let s = c .before .before .before .before .before .before .before .before .before .before .before .before .before .before .before .before .before .before .before in
+    let s = c .before .before .before .before .before .before .before .before .before .before .before .before .before .before .before .before .before .before .before .before in
     let l = c .before .before .before .before .loop in
     let w = s .pre .0 in
     let p = s .pre .1 in
@@ -98,18 +101,18 @@ row-requires c κs =
 
 add-at : tie.Need-add-at Inv-loop μ-loop
 add-at c =
-    let s = c .before .before .before .before .before .before .before .before .before .before .before .before .before .before .before .before .before .before .before .before .before .before .before .before in
+    let s = c .before .before .before .before .before .before .before .before .before .before .before .before .before .before .before .before .before .before .before .before .before .before .before .before .before in
     omega (arith, inside (c .before .before .before .before .before .before .before .before), fits-all (L s) (s .args .d * s .args .n) (s .pre .0 .2) (s .pre .1 .1) .1, s .good)
 
 add-i : tie.Need-add-i Inv-loop μ-loop
-add-i c = omega (arith, c .before .before .before .before .before .before .before .before .loop-test .taken, c .before .before .before .before .before .before .before .before .before .before .before .before .before .before .before .before .before .before .before .before .before .before .before .before .fits .n)
+add-i c = omega (arith, c .before .before .before .before .before .before .before .before .loop-test .taken, c .before .before .before .before .before .before .before .before .before .before .before .before .before .before .before .before .before .before .before .before .before .before .before .before .before .fits .n)
 
 loop-less : tie.Need-loop-less Inv-loop μ-loop
 loop-less c = omega (arith, c .before .before .before .before .before .before .before .before .loop-test .taken)
 
 loop-again : tie.Need-loop-again Inv-loop μ-loop
 loop-again c =
-    let s = c .before .before .before .before .before .before .before .before .before .before .before .before .before .before .before .before .before .before .before .before .before .before .before .before in
+    let s = c .before .before .before .before .before .before .before .before .before .before .before .before .before .before .before .before .before .before .before .before .before .before .before .before .before in
     let l = c .before .before .before .before .before .before .before .before .before .loop in
     let r = c .before .before .before .before .row in (
       omega (arith, c .before .before .before .before .before .before .before .before .loop-test .taken),
@@ -123,17 +126,17 @@ loop-again c =
     )
 
 add-tops : tie.Need-add-tops Inv-loop μ-loop
-add-tops c = omega (arith, c .before .before .before .before .before .before .before .before .before .before .before .before .before .before .before .before .before .pre .0 .3)
+add-tops c = omega (arith, c .before .before .before .before .before .before .before .before .before .before .before .before .before .before .before .before .before .before .pre .0 .3)
 
 one-requires : tie.Need-one-requires Inv-loop μ-loop
 one-requires c κs = search needs
 
 tops-requires : tie.Need-tops-requires Inv-loop μ-loop
 tops-requires c κs =
-    let s = c .before .before .before .before .before .before .before .before .before .before .before .before .before .before .before .before .before .before in
+    let s = c .before .before .before .before .before .before .before .before .before .before .before .before .before .before .before .before .before .before .before in
     let l = c .before .before .before .loop in
     let n = s .args .d + 1 in
-    (l .inv .4, holds-held (L s) (c .one .result .words) (K (L s) .one) (c .one .ensures), omega arith, fits-le (L s) (n * s .args .n) (n * (s .args .n + s .args .m)) (omega (arith, mul-add n (s .args .n) (s .args .m))) (dst-length (c .before .before .before)) (all s))
+    (l .inv .4, holds-held (L s) (c .one .result .words) (K (L s) .one) (c .one .ensures), s .pre .0 .5, omega arith, fits-le (L s) (n * s .args .n + n * s .args .m) (n * (s .args .n + s .args .m)) (omega (arith, mul-add n (s .args .n) (s .args .m))) (dst-length (c .before .before .before)) (all s))
 
 same-length : tie.Need-same-length Inv-loop μ-loop
 same-length c = c .before .before .tops .ensures .same ∙ dst-length (c .before .before .before .before .before .before)
@@ -144,15 +147,14 @@ same-length-2 c = work-length (c .before .before .before .before .before .before
 returns : tie.Need-returns Inv-loop μ-loop
 unfolding polynomials column check
 returns c =
-    let s = c .before .before .before .before .before .before .before .before .before .before .before .before .before .before .before .before .before .before .before .before .before in
+    let s = c .before .before .before .before .before .before .before .before .before .before .before .before .before .before .before .before .before .before .before .before .before .before in
     let l = c .before .before .before .before .before .before .loop in
     let t = c .before .before .tops in
     let k = K (L s) in
     let one = c .before .before .before .one in
     let done : l .i ≡ s .args .n = omega (arith, l .inv .0, c .before .before .before .before .before .loop-test .left) in
-    rows-content (L s) (s .args .n) (s .args .m) (s .args .d + 1) (terms s) (factors s) (entries s) (l .dst) (t .last .0) (s .args .d) (k .one) (omega arith) (s .pre .0 .2) (t .ensures .same ∙ dst-length (c .before .before .before .before .before .before) ∙ s .pre .1 .2)
-    (subst (Rows k (s .args .n) (s .args .m) (s .args .d + 1) (terms s) (factors s) (entries s) (el (L s) (l .dst))) done (l .inv .6))
-    (subst (λ y. Step (L s) (l .dst) (t .last .0) (λ f g. AddedDown k f g 0 (s .args .d + 1) (s .args .d) (λ e. y) (s .args .n))) (holds-value (L s) (one .result .words) (k .one) (one .ensures)) (t .ensures))
+    rows-content (L s) (s .args .n) (s .args .m) (s .args .d + 1) (terms s) (factors s) (entries s) (l .dst) (t .last .0) (s .args .d) _ (k .one) (targets s) (targets s) (s .pre .0 .2) (t .ensures .same ∙ dst-length (c .before .before .before .before .before .before) ∙ s .pre .1 .2)
+    (subst (Rows k (s .args .n) (s .args .m) (s .args .d + 1) (terms s) (factors s) (entries s) (el (L s) (l .dst))) done (l .inv .6)) (t .ensures) (holds-value (L s) (one .result .words) (k .one) (one .ensures)) (λ e. k .mul-one (targets s e))
 
 pub polynomials-spec : {M : Type 1} → statement M
 polynomials-spec =

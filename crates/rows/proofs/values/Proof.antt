@@ -10,7 +10,7 @@ use Rattle.field.specs.Word.{odd, words}
 use Rattle.field.specs.Level.{levelAt, K}
 use Rattle.field.specs.declared.Level.{Level}
 use Rattle.row.specs.Lent.{smallOf, entryOf, bitOf, elementOf}
-use Rattle.row.specs.Step.{Step, Shared, AddedDown}
+use Rattle.row.specs.Step.{Shared}
 use Rattle.row.specs.Polynomial.{value, raise, monomial, columnValue, checkValue}
 use Rattle.row.specs.Elements.{el, Fits, Words, valueOf, Held}
 use Rattle.row.proofs.ElementLaws.{fits-le, fits-all, holds-value, holds-held, cleared-words, cleared-el}
@@ -23,12 +23,12 @@ use Rattle.rows.proofs.values.Statement.{statement}
 use Rattle.rows.proofs.values.Tie as tie
 
 abbrev Inv-loop : tie.InvT-loop
-Inv-loop dst₀ n m d h x bits numbers delta work₀ level challenge at₀ i₀ dst work at i =
+Inv-loop dst₀ n m d h x y bits numbers delta work₀ level challenge at₀ i₀ dst work at i =
     (i ≤ n) × (at ≡ d * i) × (length dst ≡ length dst₀) × (length work ≡ length work₀) × Words (levelAt level) dst × Words (levelAt level) work
     × Rows (K (levelAt level)) n m 1 (λ r j k. value (K (levelAt level)) d (bitOf d bits r) (elementOf (levelAt level) d numbers r) (valueOf (levelAt level) (challenge .words)) j) (smallOf (levelAt level) x) (entryOf (levelAt level) n h) (el (levelAt level) dst) i
 
 abbrev μ-loop : tie.MeasureT-loop
-μ-loop dst₀ n m d h x bits numbers delta work₀ level challenge at₀ i₀ dst work at i = n - i
+μ-loop dst₀ n m d h x y bits numbers delta work₀ level challenge at₀ i₀ dst work at i = n - i
 
 abbrev L : tie.Start Inv-loop μ-loop → Level
 L s = levelAt (s .args .level)
@@ -38,6 +38,9 @@ terms s Δ r j k = value (K (L s)) (s .args .d) (bitOf (s .args .d) (s .args .bi
 
 abbrev factors : (s : tie.Start Inv-loop μ-loop) → ℕ → K (L s) .Carrier
 factors s = smallOf (L s) (s .args .x .now)
+
+abbrev targets : (s : tie.Start Inv-loop μ-loop) → ℕ → K (L s) .Carrier
+targets s = smallOf (L s) (s .args .y .now)
 
 abbrev entries : (s : tie.Start Inv-loop μ-loop) → ℕ → ℕ → K (L s) .Carrier
 entries s = entryOf (L s) (s .args .n) (s .args .h .now)
@@ -54,15 +57,15 @@ clear-requires-2 c κs = search needs
 
 get-requires : tie.Need-get-requires Inv-loop μ-loop
 get-requires c κs =
-    let s = c .before .before .before .before .before .before .before .before .before .before .before .before .before .before .before in
+    let s = c .before .before .before .before .before .before .before .before .before .before .before .before .before .before .before .before in
     (s .pre .0 .2, fits-all (L s) 1 (s .pre .0 .4) (s .pre .1 .2 ∙ sym (mul-one (L s .coordinates))))
 
-challenge : (c : tie.After-get Inv-loop μ-loop) → Held (L (c .before .before .before .before .before .before .before .before .before .before .before .before .before .before .before .before)) (c .get .result .words)
-challenge c = holds-held (L (c .before .before .before .before .before .before .before .before .before .before .before .before .before .before .before .before)) (c .get .result .words) (el (L (c .before .before .before .before .before .before .before .before .before .before .before .before .before .before .before .before)) (c .before .before .before .before .before .before .before .before .before .before .before .before .before .before .before .before .args .delta .now) 0) (c .get .ensures)
+challenge : (c : tie.After-get Inv-loop μ-loop) → Held (L (c .before .before .before .before .before .before .before .before .before .before .before .before .before .before .before .before .before)) (c .get .result .words)
+challenge c = holds-held (L (c .before .before .before .before .before .before .before .before .before .before .before .before .before .before .before .before .before)) (c .get .result .words) (el (L (c .before .before .before .before .before .before .before .before .before .before .before .before .before .before .before .before .before)) (c .before .before .before .before .before .before .before .before .before .before .before .before .before .before .before .before .before .args .delta .now) 0) (c .get .ensures)
 
 loop-holds : tie.Need-loop-holds Inv-loop μ-loop
 loop-holds c =
-    let s = c .before .before .before .before .before .before .before .before .before .before .before .before .before .before .before .before in
+    let s = c .before .before .before .before .before .before .before .before .before .before .before .before .before .before .before .before .before in
     let z = c .before .before .before .before .before .before .before .clear in (
       omega arith,
       sym (mul-zero (s .args .d)),
@@ -74,18 +77,18 @@ loop-holds c =
     )
 
 -- the slices are as long as at entry
-dst-length : (c : tie.At-loop Inv-loop μ-loop) → length (c .loop .dst) ≡ length (c .before .before .before .before .before .before .before .before .before .before .before .before .before .before .before .before .before .args .dst .now)
-dst-length c = c .loop .inv .2 ∙ ap length (c .before .before .before .before .before .before .before .before .clear .ensures) ∙ blanks-length (length (c .before .before .before .before .before .before .before .before .before .before .before .before .before .before .before .before .before .args .dst .now))
+dst-length : (c : tie.At-loop Inv-loop μ-loop) → length (c .loop .dst) ≡ length (c .before .before .before .before .before .before .before .before .before .before .before .before .before .before .before .before .before .before .args .dst .now)
+dst-length c = c .loop .inv .2 ∙ ap length (c .before .before .before .before .before .before .before .before .clear .ensures) ∙ blanks-length (length (c .before .before .before .before .before .before .before .before .before .before .before .before .before .before .before .before .before .before .args .dst .now))
 
-work-length : (c : tie.At-loop Inv-loop μ-loop) → length (c .loop .work) ≡ length (c .before .before .before .before .before .before .before .before .before .before .before .before .before .before .before .before .before .args .work .now)
-work-length c = c .loop .inv .3 ∙ ap length (c .before .before .before .before .clear2 .ensures) ∙ blanks-length (length (c .before .before .before .before .before .before .before .before .before .before .before .before .before .before .before .before .before .args .work .now))
+work-length : (c : tie.At-loop Inv-loop μ-loop) → length (c .loop .work) ≡ length (c .before .before .before .before .before .before .before .before .before .before .before .before .before .before .before .before .before .before .args .work .now)
+work-length c = c .loop .inv .3 ∙ ap length (c .before .before .before .before .clear2 .ensures) ∙ blanks-length (length (c .before .before .before .before .before .before .before .before .before .before .before .before .before .before .before .before .before .before .args .work .now))
 
-inside : (c : tie.In-loop Inv-loop μ-loop) → c .before .loop .at + c .before .before .before .before .before .before .before .before .before .before .before .before .before .before .before .before .before .before .args .d ≤ c .before .before .before .before .before .before .before .before .before .before .before .before .before .before .before .before .before .before .args .d * c .before .before .before .before .before .before .before .before .before .before .before .before .before .before .before .before .before .before .args .n
-inside c = omega (arith, c .before .loop .inv .1, row-le (c .before .before .before .before .before .before .before .before .before .before .before .before .before .before .before .before .before .before .args .d) (c .before .loop .i) (c .before .before .before .before .before .before .before .before .before .before .before .before .before .before .before .before .before .before .args .n) (c .loop-test .taken))
+inside : (c : tie.In-loop Inv-loop μ-loop) → c .before .loop .at + c .before .before .before .before .before .before .before .before .before .before .before .before .before .before .before .before .before .before .before .args .d ≤ c .before .before .before .before .before .before .before .before .before .before .before .before .before .before .before .before .before .before .before .args .d * c .before .before .before .before .before .before .before .before .before .before .before .before .before .before .before .before .before .before .before .args .n
+inside c = omega (arith, c .before .loop .inv .1, row-le (c .before .before .before .before .before .before .before .before .before .before .before .before .before .before .before .before .before .before .before .args .d) (c .before .loop .i) (c .before .before .before .before .before .before .before .before .before .before .before .before .before .before .before .before .before .before .before .args .n) (c .loop-test .taken))
 
 value-row-requires : tie.Need-value-row-requires Inv-loop μ-loop
 value-row-requires c κs =
-    let s = c .before .before .before .before .before .before .before .before .before .before .before .before .before .before .before .before .before .before .before .before in
+    let s = c .before .before .before .before .before .before .before .before .before .before .before .before .before .before .before .before .before .before .before .before .before in
     let l = c .before .before .before .loop in
     let w = s .pre .0 in
     let p = s .pre .1 in (
@@ -101,17 +104,17 @@ value-row-requires c κs =
     )
 
 add-at : tie.Need-add-at Inv-loop μ-loop
-add-at c = omega (arith, inside (c .before .before .before .before .before .before .before), c .before .before .before .before .before .before .before .before .before .before .before .before .before .before .before .before .before .before .before .before .before .before .before .before .before .pre .1 .0, c .before .before .before .before .before .before .before .before .before .before .before .before .before .before .before .before .before .before .before .before .before .before .before .before .before .good)
+add-at c = omega (arith, inside (c .before .before .before .before .before .before .before), c .before .before .before .before .before .before .before .before .before .before .before .before .before .before .before .before .before .before .before .before .before .before .before .before .before .before .pre .1 .0, c .before .before .before .before .before .before .before .before .before .before .before .before .before .before .before .before .before .before .before .before .before .before .before .before .before .before .good)
 
 add-i : tie.Need-add-i Inv-loop μ-loop
-add-i c = omega (arith, c .before .before .before .before .before .before .before .loop-test .taken, c .before .before .before .before .before .before .before .before .before .before .before .before .before .before .before .before .before .before .before .before .before .before .before .before .before .fits .n)
+add-i c = omega (arith, c .before .before .before .before .before .before .before .loop-test .taken, c .before .before .before .before .before .before .before .before .before .before .before .before .before .before .before .before .before .before .before .before .before .before .before .before .before .before .fits .n)
 
 loop-less : tie.Need-loop-less Inv-loop μ-loop
 loop-less c = omega (arith, c .before .before .before .before .before .before .before .loop-test .taken)
 
 loop-again : tie.Need-loop-again Inv-loop μ-loop
 loop-again c =
-    let s = c .before .before .before .before .before .before .before .before .before .before .before .before .before .before .before .before .before .before .before .before .before .before .before .before .before in
+    let s = c .before .before .before .before .before .before .before .before .before .before .before .before .before .before .before .before .before .before .before .before .before .before .before .before .before .before in
     let l = c .before .before .before .before .before .before .before .before .loop in
     let r = c .before .before .before .before .value-row in
     let Δ = valueOf (L s) (c .before .before .before .before .before .before .before .before .before .get .result .words) in (
@@ -126,16 +129,16 @@ loop-again c =
     )
 
 raised-requires : tie.Need-raised-requires Inv-loop μ-loop
-raised-requires c κs = challenge (c .before .before .before)
+raised-requires c κs = challenge (c .before .before)
 
-power : (c : tie.After-raised Inv-loop μ-loop) → valueOf (L (c .before .before .before .before .before .before .before .before .before .before .before .before .before .before .before .before .before .before .before .before)) (c .raised .result .words) ≡ raise (K (L (c .before .before .before .before .before .before .before .before .before .before .before .before .before .before .before .before .before .before .before .before))) (valueOf (L (c .before .before .before .before .before .before .before .before .before .before .before .before .before .before .before .before .before .before .before .before)) (c .before .before .before .before .get .result .words)) (c .before .before .before .before .before .before .before .before .before .before .before .before .before .before .before .before .before .before .before .before .args .d)
-power c = holds-value (L (c .before .before .before .before .before .before .before .before .before .before .before .before .before .before .before .before .before .before .before .before)) (c .raised .result .words) (raise (K (L (c .before .before .before .before .before .before .before .before .before .before .before .before .before .before .before .before .before .before .before .before))) (valueOf (L (c .before .before .before .before .before .before .before .before .before .before .before .before .before .before .before .before .before .before .before .before)) (c .before .before .before .before .get .result .words)) (c .before .before .before .before .before .before .before .before .before .before .before .before .before .before .before .before .before .before .before .before .args .d)) (c .raised .ensures)
+power : (c : tie.After-raised Inv-loop μ-loop) → valueOf (L (c .before .before .before .before .before .before .before .before .before .before .before .before .before .before .before .before .before .before .before .before)) (c .raised .result .words) ≡ raise (K (L (c .before .before .before .before .before .before .before .before .before .before .before .before .before .before .before .before .before .before .before .before))) (valueOf (L (c .before .before .before .before .before .before .before .before .before .before .before .before .before .before .before .before .before .before .before .before)) (c .before .before .before .get .result .words)) (c .before .before .before .before .before .before .before .before .before .before .before .before .before .before .before .before .before .before .before .before .args .d)
+power c = holds-value (L (c .before .before .before .before .before .before .before .before .before .before .before .before .before .before .before .before .before .before .before .before)) (c .raised .result .words) (raise (K (L (c .before .before .before .before .before .before .before .before .before .before .before .before .before .before .before .before .before .before .before .before))) (valueOf (L (c .before .before .before .before .before .before .before .before .before .before .before .before .before .before .before .before .before .before .before .before)) (c .before .before .before .get .result .words)) (c .before .before .before .before .before .before .before .before .before .before .before .before .before .before .before .before .before .before .before .before .args .d)) (c .raised .ensures)
 
 tops-requires : tie.Need-tops-requires Inv-loop μ-loop
 tops-requires c κs =
-    let s = c .before .before .before .before .before .before .before .before .before .before .before .before .before .before .before .before .before .before .before .before in
+    let s = c .before .before .before .before .before .before .before .before .before .before .before .before .before .before .before .before .before .before .before .before .before in
     let l = c .before .before .before .loop in
-    (l .inv .4, holds-held (L s) (c .raised .result .words) (raise (K (L s)) (valueOf (L s) (c .before .before .before .before .get .result .words)) (s .args .d)) (c .raised .ensures), omega arith, fits-le (L s) (1 * s .args .n) (s .args .n + s .args .m) (omega arith) (dst-length (c .before .before .before)) (all s))
+    (l .inv .4, holds-held (L s) (c .before .raised .result .words) (raise (K (L s)) (valueOf (L s) (c .before .before .before .before .get .result .words)) (s .args .d)) (c .before .raised .ensures), s .pre .0 .6, omega arith, fits-le (L s) (1 * s .args .n + 1 * s .args .m) (s .args .n + s .args .m) (omega arith) (dst-length (c .before .before .before)) (all s))
 
 same-length : tie.Need-same-length Inv-loop μ-loop
 same-length c = c .before .before .tops .ensures .same ∙ dst-length (c .before .before .before .before .before .before)
@@ -146,19 +149,18 @@ same-length-2 c = work-length (c .before .before .before .before .before .before
 returns : tie.Need-returns Inv-loop μ-loop
 unfolding values columnValue checkValue concat monomial
 returns c =
-    let s = c .before .before .before .before .before .before .before .before .before .before .before .before .before .before .before .before .before .before .before .before .before .before .before in
+    let s = c .before .before .before .before .before .before .before .before .before .before .before .before .before .before .before .before .before .before .before .before .before .before .before .before in
     let l = c .before .before .before .before .before .before .loop in
     let t = c .before .before .tops in
     let k = K (L s) in
     let g = c .before .before .before .before .before .before .before .get in
     let Δ = valueOf (L s) (g .result .words) in
     let done : l .i ≡ s .args .n = omega (arith, l .inv .0, c .before .before .before .before .before .loop-test .left) in
-    subst (λ y. t .last .0 ≡ concat (s .args .n) (λ j. words (L s) (columnValue k (s .args .n) (s .args .d) (entries s) (factors s) (bitOf (s .args .d) (s .args .bits .now)) (elementOf (L s) (s .args .d) (s .args .numbers .now)) y j)) ++ concat (s .args .m) (λ e. words (L s) (checkValue k (s .args .n) (s .args .d) (entries s) (factors s) (bitOf (s .args .d) (s .args .bits .now)) (elementOf (L s) (s .args .d) (s .args .numbers .now)) y e)))
+    subst (λ y. t .last .0 ≡ concat (s .args .n) (λ j. words (L s) (columnValue k (s .args .n) (s .args .d) (entries s) (factors s) (targets s) (bitOf (s .args .d) (s .args .bits .now)) (elementOf (L s) (s .args .d) (s .args .numbers .now)) y j)) ++ concat (s .args .m) (λ e. words (L s) (checkValue k (s .args .n) (s .args .d) (entries s) (factors s) (targets s) (bitOf (s .args .d) (s .args .bits .now)) (elementOf (L s) (s .args .d) (s .args .numbers .now)) y e)))
     (holds-value (L s) (g .result .words) (el (L s) (s .args .delta .now) 0) (g .ensures))
-    (rows-content (L s) (s .args .n) (s .args .m) 1 (terms s Δ) (factors s) (entries s) (l .dst) (t .last .0) 0 (raise k Δ (s .args .d)) (omega arith) (s .pre .0 .4)
+    (rows-content (L s) (s .args .n) (s .args .m) 1 (terms s Δ) (factors s) (entries s) (l .dst) (t .last .0) 0 _ (raise k Δ (s .args .d)) (targets s) (λ e. k .mul (targets s e) (raise k Δ (s .args .d))) (s .pre .0 .4)
     (t .ensures .same ∙ dst-length (c .before .before .before .before .before .before) ∙ s .pre .1 .3 ∙ ap (λ n. L s .coordinates * n) (sym (one-mul (s .args .n + s .args .m))))
-    (subst (Rows k (s .args .n) (s .args .m) 1 (terms s Δ) (factors s) (entries s) (el (L s) (l .dst))) done (l .inv .6))
-    (subst (λ y. Step (L s) (l .dst) (t .last .0) (λ f g. AddedDown k f g 0 1 0 (λ e. y) (s .args .n))) (power (c .before .before .before)) (t .ensures)))
+    (subst (Rows k (s .args .n) (s .args .m) 1 (terms s Δ) (factors s) (entries s) (el (L s) (l .dst))) done (l .inv .6)) (t .ensures) (power (c .before .before .before .before)) (λ e. refl))
 
 pub values-spec : {M : Type 1} → statement M
 values-spec =

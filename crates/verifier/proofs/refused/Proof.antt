@@ -6,7 +6,7 @@ use Rattle.refusal.specs.Answer.{firstOf}
 use Rattle.refusal.specs.declared.Answer.the-variants.{Done}
 use Rattle.refusal.proofs.Answers.{after-refused, none}
 use Rattle.field.specs.Level.{FIRST, levelAt}
-use Rattle.key.specs.Key.{lengths, sizes, Sized, below, withins, checks}
+use Rattle.key.specs.Key.{keySlices, keyWithin, lengths, sizes, Sized, below, withins, checks}
 use Rattle.key.proofs.Sized.{sized}
 use Rattle.key.proofs.Fine.{withins-more, withins-last}
 use Rattle.key.proofs.Checked.{told, told-length}
@@ -17,11 +17,11 @@ use Rattle.verifier.proofs.refused.Statement.{statement}
 use Rattle.verifier.proofs.refused.Tie as tie
 
 -- past the sizes
-passed : (c : tie.After-enum-told2) → firstOf (sizes (levelAt FIRST) (c .before .before .before .before .before .before .before .before .before .before .before .args .key)) ≡ Done
+passed : (c : tie.After-enum-told2) → firstOf (sizes (levelAt FIRST) (c .before .before .before .before .before .before .before .before .before .before .before .before .args .key)) ≡ Done
 passed c = sym (c .before .before .sizes .ensures) ∙ c .enum-told2 .given .1
 
-is-sized : (c : tie.After-enum-told2) → Sized (levelAt FIRST) (c .before .before .before .before .before .before .before .before .before .before .before .args .key)
-is-sized c = let k = c .before .before .before .before .before .before .before .before .before .before .before .args .key in sized (levelAt FIRST) k (none (sizes (levelAt FIRST) k) (passed c))
+is-sized : (c : tie.After-enum-told2) → Sized (levelAt FIRST) (c .before .before .before .before .before .before .before .before .before .before .before .before .args .key)
+is-sized c = let k = c .before .before .before .before .before .before .before .before .before .before .before .before .args .key in sized (levelAt FIRST) k (none (sizes (levelAt FIRST) k) (passed c))
 
 sizes-requires : tie.Need-sizes-requires
 sizes-requires c κs = search needs
@@ -31,8 +31,8 @@ enum-told c = search needs
 
 returns : tie.Need-returns
 returns c =
-    let a = c .before .before .before .before .before .before .before .before .before .before .before .args in
-    after-refused (sizes (levelAt FIRST) (a .key)) (checks (long (verifyLent (lengths (levelAt FIRST) (a .key)) (a .h .now) (a .x .now) (a .t .now) (a .q .now) (a .delta .now) (a .masks .now) (a .alpha .now) (a .a .now))) (withins (levelAt FIRST) (a .h .now ∷ a .x .now ∷ [])) (below 1 (a .t .now)) (withins (levelAt FIRST) (a .q .now ∷ a .delta .now ∷ a .masks .now ∷ a .alpha .now ∷ a .a .now ∷ [])) true) (c .before .before .sizes .ensures) (c .enum-told .given .1)
+    let a = c .before .before .before .before .before .before .before .before .before .before .before .before .args in
+    after-refused (sizes (levelAt FIRST) (a .key)) (checks (long (verifyLent (lengths (levelAt FIRST) (a .key)) (keySlices (a .h .now) (a .x .now) (a .y .now)) (a .t .now) (a .q .now) (a .delta .now) (a .masks .now) (a .alpha .now) (a .a .now))) (keyWithin (levelAt FIRST) (keySlices (a .h .now) (a .x .now) (a .y .now))) (below 1 (a .t .now)) (withins (levelAt FIRST) (a .q .now ∷ a .delta .now ∷ a .masks .now ∷ a .alpha .now ∷ a .a .now ∷ [])) true) (c .before .before .sizes .ensures) (c .enum-told .given .1)
 
 enum-told-2 : tie.Need-enum-told-2
 enum-told-2 c = search needs
@@ -42,8 +42,8 @@ lengths-requires c κs = is-sized c
 
 returns-2 : tie.Need-returns-2
 returns-2 c =
-    let a = c .before .before .before .before .before .before .before .before .before .before .before .before .before .args in
-    told-length (levelAt FIRST) (a .key) (long (verifyLent (lengths (levelAt FIRST) (a .key)) (a .h .now) (a .x .now) (a .t .now) (a .q .now) (a .delta .now) (a .masks .now) (a .alpha .now) (a .a .now))) (withins (levelAt FIRST) (a .h .now ∷ a .x .now ∷ [])) (below 1 (a .t .now)) (withins (levelAt FIRST) (a .q .now ∷ a .delta .now ∷ a .masks .now ∷ a .alpha .now ∷ a .a .now ∷ [])) true
+    let a = c .before .before .before .before .before .before .before .before .before .before .before .before .before .before .args in
+    told-length (levelAt FIRST) (a .key) (long (verifyLent (lengths (levelAt FIRST) (a .key)) (keySlices (a .h .now) (a .x .now) (a .y .now)) (a .t .now) (a .q .now) (a .delta .now) (a .masks .now) (a .alpha .now) (a .a .now))) (keyWithin (levelAt FIRST) (keySlices (a .h .now) (a .x .now) (a .y .now))) (below 1 (a .t .now)) (withins (levelAt FIRST) (a .q .now ∷ a .delta .now ∷ a .masks .now ∷ a .alpha .now ∷ a .a .now ∷ [])) true
     (passed (c .before .before)) (c .before .lengths .result) (c .before .lengths .ensures) (c .if1 .taken)
 
 excess-requires : tie.Need-excess-requires
@@ -64,9 +64,6 @@ excess-requires-5 c κs = search needs
 excess-requires-6 : tie.Need-excess-requires-6
 excess-requires-6 c κs = search needs
 
-excess-requires-7 : tie.Need-excess-requires-7
-excess-requires-7 c κs = search needs
-
 over-requires : tie.Need-over-requires
 over-requires c κs = search needs
 
@@ -76,11 +73,11 @@ contents-requires c κs = search needs
 returns-3 : tie.Need-returns-3
 returns-3 c =
     let a = c .before .before .before .before .before .before .before .before .before .before .before .before .before .before .before .before .before .before .before .before .before .before .args in
-    told (levelAt FIRST) (a .key) (long (verifyLent (lengths (levelAt FIRST) (a .key)) (a .h .now) (a .x .now) (a .t .now) (a .q .now) (a .delta .now) (a .masks .now) (a .alpha .now) (a .a .now))) (withins (levelAt FIRST) (a .h .now ∷ a .x .now ∷ [])) (below 1 (a .t .now)) (withins (levelAt FIRST) (a .q .now ∷ a .delta .now ∷ a .masks .now ∷ a .alpha .now ∷ a .a .now ∷ [])) true
-    (passed (c .before .before .before .before .before .before .before .before .before .before .before)) (c .before .before .before .before .before .before .before .before .before .before .lengths .result) (c .before .before .before .before .before .before .before .before .before .before .lengths .ensures) (c .before .before .before .before .before .before .before .before .before .if1 .left) (c .contents .ensures)
-    (withins-more (levelAt FIRST) (a .h .now) (a .x .now ∷ []) (c .before .before .before .before .before .before .before .before .excess .result) (c .before .before .before .before .before .before .before .excess2 .result) (c .before .before .before .before .before .before .before .before .excess .ensures) (withins-last (levelAt FIRST) (a .x .now) (c .before .before .before .before .before .before .before .excess2 .result) (c .before .before .before .before .before .before .before .excess2 .ensures)))
+    told (levelAt FIRST) (a .key) (long (verifyLent (lengths (levelAt FIRST) (a .key)) (keySlices (a .h .now) (a .x .now) (a .y .now)) (a .t .now) (a .q .now) (a .delta .now) (a .masks .now) (a .alpha .now) (a .a .now))) (keyWithin (levelAt FIRST) (keySlices (a .h .now) (a .x .now) (a .y .now))) (below 1 (a .t .now)) (withins (levelAt FIRST) (a .q .now ∷ a .delta .now ∷ a .masks .now ∷ a .alpha .now ∷ a .a .now ∷ [])) true
+    (passed (c .before .before .before .before .before .before .before .before .before .before)) (c .before .before .before .before .before .before .before .before .before .lengths .result) (c .before .before .before .before .before .before .before .before .before .lengths .ensures) (c .before .before .before .before .before .before .before .before .if1 .left) (c .contents .ensures)
+    (c .before .before .before .before .before .before .before .excess .ensures)
     (c .before .over .ensures)
-    (withins-more (levelAt FIRST) (a .q .now) (a .delta .now ∷ a .masks .now ∷ a .alpha .now ∷ a .a .now ∷ []) (c .before .before .before .before .before .before .excess3 .result) (bitOr (c .before .before .before .before .before .excess4 .result) (bitOr (c .before .before .before .before .excess5 .result) (bitOr (c .before .before .before .excess6 .result) (c .before .before .excess7 .result)))) (c .before .before .before .before .before .before .excess3 .ensures) (withins-more (levelAt FIRST) (a .delta .now) (a .masks .now ∷ a .alpha .now ∷ a .a .now ∷ []) (c .before .before .before .before .before .excess4 .result) (bitOr (c .before .before .before .before .excess5 .result) (bitOr (c .before .before .before .excess6 .result) (c .before .before .excess7 .result))) (c .before .before .before .before .before .excess4 .ensures) (withins-more (levelAt FIRST) (a .masks .now) (a .alpha .now ∷ a .a .now ∷ []) (c .before .before .before .before .excess5 .result) (bitOr (c .before .before .before .excess6 .result) (c .before .before .excess7 .result)) (c .before .before .before .before .excess5 .ensures) (withins-more (levelAt FIRST) (a .alpha .now) (a .a .now ∷ []) (c .before .before .before .excess6 .result) (c .before .before .excess7 .result) (c .before .before .before .excess6 .ensures) (withins-last (levelAt FIRST) (a .a .now) (c .before .before .excess7 .result) (c .before .before .excess7 .ensures))))))
+    (withins-more (levelAt FIRST) (a .q .now) (a .delta .now ∷ a .masks .now ∷ a .alpha .now ∷ a .a .now ∷ []) (c .before .before .before .before .before .before .excess2 .result) (bitOr (c .before .before .before .before .before .excess3 .result) (bitOr (c .before .before .before .before .excess4 .result) (bitOr (c .before .before .before .excess5 .result) (c .before .before .excess6 .result)))) (c .before .before .before .before .before .before .excess2 .ensures) (withins-more (levelAt FIRST) (a .delta .now) (a .masks .now ∷ a .alpha .now ∷ a .a .now ∷ []) (c .before .before .before .before .before .excess3 .result) (bitOr (c .before .before .before .before .excess4 .result) (bitOr (c .before .before .before .excess5 .result) (c .before .before .excess6 .result))) (c .before .before .before .before .before .excess3 .ensures) (withins-more (levelAt FIRST) (a .masks .now) (a .alpha .now ∷ a .a .now ∷ []) (c .before .before .before .before .excess4 .result) (bitOr (c .before .before .before .excess5 .result) (c .before .before .excess6 .result)) (c .before .before .before .before .excess4 .ensures) (withins-more (levelAt FIRST) (a .alpha .now) (a .a .now ∷ []) (c .before .before .before .excess5 .result) (c .before .before .excess6 .result) (c .before .before .before .excess5 .ensures) (withins-last (levelAt FIRST) (a .a .now) (c .before .before .excess6 .result) (c .before .before .excess6 .ensures))))))
     refl
 
 pub refused-spec : {M : Type 1} → statement M
@@ -99,7 +96,6 @@ refused-spec =
     excess-requires-4
     excess-requires-5
     excess-requires-6
-    excess-requires-7
     over-requires
     contents-requires
     returns-3)

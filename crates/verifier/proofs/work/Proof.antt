@@ -1,5 +1,6 @@
 use borrow.Author.Needs.{needs}
 use Rattle.row.proofs.ListLaws.{blanks-length}
+use Rattle.key.specs.Key.{keySlices}
 use Rattle.verifier.proofs.work.Statement.{statement}
 use Rattle.verifier.proofs.work.Tie as tie
 
@@ -16,7 +17,7 @@ slice-aggregate-difference-4 : tie.Need-slice-aggregate-difference-4
 slice-aggregate-difference-4 c = search needs
 
 difference-requires : tie.Need-difference-requires
-difference-requires c κs = (c .before .before .before .before .before .before .before .before .before .before .before .before .pre, (blanks-length 768, blanks-length 768, blanks-length 768, blanks-length 768))
+difference-requires c κs = (c .before .before .before .before .before .before .before .before .before .before .before .before .before .pre, (blanks-length 768, blanks-length 768, blanks-length 768, blanks-length 768))
 
 returns : tie.Need-returns
 returns c = c .before .before .before .before .difference .ensures

@@ -1,7 +1,9 @@
 //! The check of perkcheck: reads a check file, then verifies it. It answers as
 //! verify does, or the refusal of the reader.
 
-use super::files::fields::{any_fields, content_mut, content_of, dependent_rows, holds, Holds};
+use super::files::fields::{
+    any_fields, content_mut, content_of, dependent_rows, holds, set_target, zero_target, Holds,
+};
 use super::files::{self, groups, table, File, Reader, BYTES};
 use super::readers::{self, key_a};
 use super::{keyed, verify, witnesses, DONE, REJECTED};
@@ -10,8 +12,10 @@ use crate::kinds::Kind;
 use crate::lent::Lent;
 use crate::library;
 use crate::named::Named;
+use reference::key::elements_of_k;
+use reference::large_field::{COORDINATES, K};
 use reference::package::{check_fields, join, package_fields, tag, WrittenField};
-use reference::samples::Generator;
+use reference::samples::{self, Generator, Sample};
 use reference::Verdict;
 
 /// The check of a check file.
@@ -51,7 +55,8 @@ pub const CHECK: Entry = Entry {
         columns: || table::columns(File::CheckFile, ANSWERS),
         rows: || table::rows(File::CheckFile, ANSWERS),
         cell: |answer, taken| {
-            let (row, column) = table::cell(reference::judge_check_file(taken.bytes(BYTES)));
+            let bytes = taken.bytes(BYTES);
+            let (row, column) = table::cell(bytes, reference::judge_check_file(bytes));
             match answer {
                 REJECTED => (row, REJECTED.to_string()),
                 _ => (row, column),
@@ -59,7 +64,7 @@ pub const CHECK: Entry = Entry {
         },
     }),
     groups: || {
-        let own = vec![EXAMPLES, HONEST, CHANGED, EVERY_BIT, ZEROS];
+        let own = vec![EXAMPLES, HONEST, TARGETS, CHANGED, EVERY_BIT, ZEROS];
         [own, groups::fault_groups::<Check>()].concat()
     },
     ..readers::ENTRY
@@ -78,8 +83,12 @@ fn of_fields(fields: &[WrittenField], answer: Option<u32>, generator: &mut Gener
 
 /// The fields of an honest check file, with a challenge of this kind.
 pub fn honest(n: usize, m: usize, challenge: Kind, generator: &mut Generator) -> Vec<WrittenField> {
-    let sample = verify::sample(n, m, challenge, generator);
-    let (t, a) = witnesses::proof(&sample);
+    fields_of(&verify::sample(n, m, challenge, generator))
+}
+
+/// The fields of the check file of a sample that is solved.
+fn fields_of(sample: &Sample) -> Vec<WrittenField> {
+    let (t, a) = witnesses::proof(sample);
     let mut fields = package_fields(sample.key(), sample.serial, &t, &a);
     fields.extend(check_fields(
         &sample.q,
@@ -122,7 +131,7 @@ pub fn changed(
                 content[2 * generator.below(len / 2) + 1 - bit / 8] ^= 1 << (bit % 8);
             }
         }
-        if !dependent_rows(&fields) {
+        if !dependent_rows(&fields) && !fields.iter().any(zero_target) {
             return (fields, answer);
         }
     }
@@ -137,13 +146,70 @@ pub fn changeable(fields: &[WrittenField]) -> Vec<u8> {
 }
 
 const EXAMPLES: Group = Group::new("key A", |generator, each| {
-    let mut fields = key_a(File::CheckFile);
-    each(of_fields(&fields, Some(DONE), generator));
-    let a = content_mut(&mut fields, tag::A);
-    assert_eq!(a[..2], [0, 5]);
-    a[1] = 4;
-    each(of_fields(&fields, Some(REJECTED), generator));
+    for fields in key_a(File::CheckFile) {
+        each(of_fields(&fields, Some(DONE), generator));
+        let mut other = fields.clone();
+        let a = content_mut(&mut other, tag::A);
+        assert_eq!(a[..2], [0, 5]);
+        a[1] = 4;
+        each(of_fields(&other, Some(REJECTED), generator));
+        // With the other of the two targets, none and 5.
+        let mut other = fields.clone();
+        other.retain(|field| field.tag != tag::Y);
+        if other.len() == fields.len() {
+            set_target(&mut other, &[5]);
+        }
+        each(of_fields(&other, Some(REJECTED), generator));
+    }
 });
+
+/// The answer to the file of a solved sample with another y: the elements that
+/// differ count with their weights and with Δ^d.
+fn answer_with(sample: &Sample, y: &[u16]) -> u32 {
+    let elements = |words: &[u16]| elements_of_k(words).expect("coordinates up to 2047");
+    let differences = sample.y.iter().zip(y).map(|(one, other)| one ^ other);
+    let differences = elements(&samples::elements(&differences.collect::<Vec<_>>()));
+    let weights = elements(&sample.alpha[COORDINATES * sample.n..]);
+    let terms = weights.into_iter().zip(differences);
+    let sum = terms.fold(K::ZERO, |sum, (alpha, y)| sum + alpha * y);
+    if sum == K::ZERO || elements(&sample.delta)[0] == K::ZERO {
+        DONE
+    } else {
+        REJECTED
+    }
+}
+
+const TARGETS: Group = Group::new(
+    "n to 20 and larger, y left out, put in or changed",
+    |generator, each| {
+        for n in (2..=20).chain([32, 33, 64]) {
+            let m = keyed::some_m(n, generator)[n % 3];
+            for challenge in Kind::CHALLENGES {
+                let mut sample = verify::sample(n, m, challenge, generator);
+                if generator.below(4) == 0 {
+                    // Weights that leave the rows of H out.
+                    sample.alpha[COORDINATES * n..].fill(0);
+                }
+                let fields = fields_of(&sample);
+                for y in other_targets(&sample, generator) {
+                    let answer = answer_with(&sample, &y);
+                    let mut fields = fields.clone();
+                    set_target(&mut fields, &y);
+                    fields.retain(|field| !zero_target(field));
+                    each(of_fields(&fields, Some(answer), generator));
+                }
+            }
+        }
+    },
+);
+
+/// The y of a sample, zeros, any, and one with one bit changed.
+fn other_targets(sample: &Sample, generator: &mut Generator) -> Vec<Vec<u16>> {
+    let mut changed = sample.y.clone();
+    changed[generator.below(sample.m)] ^= 1 << generator.below(11);
+    let any = generator.words(sample.m);
+    vec![sample.y.clone(), vec![0; sample.m], any, changed]
+}
 
 const HONEST: Group = Group::new(
     "every n, honest files, challenge random, zero or one",

@@ -27,6 +27,7 @@ pub struct Completeness;
 impl Keyed for Completeness {
     const READS: &'static [&'static str] = &[POSITIONS, U, V, R, S, ALPHA, DELTA];
     const WRITES: &'static [&'static str] = &[T, A];
+    const DONE: &'static [u32] = &[DONE, REJECTED, TOP];
     const REFUSALS: &'static [Refusal] = &[];
 }
 
@@ -36,10 +37,11 @@ const CHANGED: &str = "changed";
 /// Completeness as an entry.
 pub const COMPLETENESS: Entry = Entry {
     name: "completeness",
-    done: &[DONE, REJECTED, TOP],
+    done: Completeness::DONE,
     refusals: Completeness::REFUSALS,
     library: prove_and_verify,
     reference: by_the_key,
+    table: Some(keyed::table::<Completeness>()),
     groups: || {
         vec![
             SOLVING,

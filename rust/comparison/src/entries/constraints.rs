@@ -10,7 +10,7 @@ use crate::kinds::{Kind, Wanted};
 use crate::lent::Lent;
 use crate::library;
 use crate::named::Named;
-use crate::slices::{positions_below, H, POLYNOMIALS, POSITIONS, T, U, V, X};
+use crate::slices::{positions_below, H, POLYNOMIALS, POSITIONS, T, U, V, X, Y};
 use reference::key::Sizes;
 use reference::samples::{Generator, Sample};
 use reference::{Key, Refusal};
@@ -59,6 +59,7 @@ pub const CONSTRAINTS: Entry = Entry {
         let rounds = rounds::groups::<Constraints>();
         [own, rounds, fault_groups::<Constraints>()].concat()
     },
+    table: Some(keyed::table::<Constraints>()),
     least: rounds::least,
     ..keyed::ENTRY
 };
@@ -90,7 +91,7 @@ fn solved(sizes: Sizes, generator: &mut Generator) -> Case {
     let positions = generator.order(sizes.n);
     let wanted = Wanted {
         entries: &witnesses::entries(case.words(X), &positions),
-        sums: &vec![0; sizes.m],
+        sums: case.words(Y),
     };
     let h = Kind::Random.rows(sizes, Some(wanted), generator);
     case.set_words(H, &h);
@@ -128,7 +129,9 @@ const SMALL_N: Group = Group::new("n to 9, every m", |generator, each| {
 const EXTREMES: Group = Group::new(keyed::EXTREMES, |generator, each| {
     keyed::with_extremes(generator, &mut |sizes, turn, [h, x, u, v], generator| {
         let mut case = with_positions(sizes, turn % KINDS.len(), generator);
-        fill(&mut case, &[(H, h), (X, x), (U, u), (V, v)], generator);
+        let y = x.next_extreme(turn);
+        let kinds = [(H, h), (X, x), (Y, y), (U, u), (V, v)];
+        fill(&mut case, &kinds, generator);
         each(case);
     });
 });
@@ -204,6 +207,22 @@ const EXAMPLES: Group = Group::new("examples of the specification", |generator, 
 
     case.set_bytes(POSITIONS, &[1, 0]);
     case.stated = Some(stated_tops(2, 1, &[5]));
+    each(case);
+
+    // With the target 5 these positions solve the key.
+    let mut case = done_with(&Sample::key_a_with_target(), generator);
+    let mut list = vec![stated(T, 0, 0_u16), stated(T, 1, 0_u16)];
+    for (j, word) in [5, 5, 10].into_iter().enumerate() {
+        list.extend(stated_element(POLYNOMIALS, 2 * j, word));
+    }
+    list.extend(stated_tops(0, 1, &[0, 0, 0]));
+    case.stated = Some(list);
+    each(case);
+    let mut case = done_with(&Sample::three_with_target(), generator);
+    let coefficients = [16, 0, 0, 16, 7, 0, 16, 0, 0, 6, 3, 0].into_iter();
+    let stated = coefficients.enumerate();
+    let stated = stated.flat_map(|(index, word)| stated_element(POLYNOMIALS, index, word));
+    case.stated = Some(stated.collect());
     each(case);
 
     // For n = 3 the key, u and v are free.

@@ -29,16 +29,18 @@ pub struct BothFacts;
 impl Keyed for BothFacts {
     const READS: &'static [&'static str] = &[POSITIONS, U, V, DELTA];
     const WRITES: &'static [&'static str] = &[VALUES, T, POLYNOMIALS];
+    const DONE: &'static [u32] = &[DONE, TOP];
     const REFUSALS: &'static [Refusal] = &[];
 }
 
 /// Demand 3 as an entry.
 pub const BOTH_FACTS: Entry = Entry {
     name: "demand 3",
-    done: &[DONE, TOP],
+    done: BothFacts::DONE,
     refusals: BothFacts::REFUSALS,
     library: values_and_tops,
     reference: polynomials_at_delta,
+    table: Some(keyed::table::<BothFacts>()),
     groups: || {
         vec![
             witnesses::all_positions::<BothFacts>(),

@@ -2,13 +2,14 @@
 //! refusals, and cases that no refusal applies to.
 
 use super::DONE;
-use crate::case::{Case, Entry, Taken};
+use crate::case::{Case, Cell, Entry, Rows, Table, Taken};
 use crate::kinds::Kind;
 use crate::lent::Lent;
 use crate::named::Named;
-use crate::slices::{self, Slice, KEY, M, N};
+use crate::slices::{self, Slice, KEY, M, N, Y};
 use reference::key::{number_of_digits, Sizes};
 use reference::samples::{Generator, Sample};
+use reference::small_field::F;
 use reference::Refusal;
 
 /// An entry that takes a key, then other slices.
@@ -17,6 +18,8 @@ pub trait Keyed: Sized {
     const READS: &'static [&'static str];
     /// The slices that it writes.
     const WRITES: &'static [&'static str];
+    /// The answers that are no refusal.
+    const DONE: &'static [u32] = &[DONE];
     /// The refusals in the order in which they are decided.
     const REFUSALS: &'static [Refusal];
 
@@ -81,6 +84,55 @@ fn rows_of_key(taken: &Taken, answer: u32) -> Option<(usize, Vec<u16>)> {
     let before = OF_KEY.iter().any(|refusal| refusal.number() == answer);
     let key = taken.key();
     (!before).then(|| (key.n, key.h.to_vec()))
+}
+
+/// What y is: all zero, not all zero, of another length than m, or with an
+/// element above 2047, of any length.
+const TARGETS: [&str; 4] = ["zero", "nonzero", "length", "above"];
+
+/// What y of a call is.
+fn target_of(taken: &Taken) -> &'static str {
+    let y = taken.words(Y);
+    let [zero, nonzero, length, above] = TARGETS;
+    if y.iter().any(|&word| word > F::LARGEST) {
+        above
+    } else if y.len() != taken.numbers[M] {
+        length
+    } else if y.iter().any(|&word| word != 0) {
+        nonzero
+    } else {
+        zero
+    }
+}
+
+/// The answers that an entry can give for such a y: all, or the refusals up to
+/// the one that applies to it.
+fn answers_for<E: Keyed>(target: &str) -> Vec<String> {
+    let up_to = |last| {
+        let place = E::REFUSALS.iter().position(|&refusal| refusal == last);
+        &E::REFUSALS[..place.map_or(0, |place| place + 1)]
+    };
+    let (done, refusals) = match target {
+        "length" => (&[][..], up_to(Refusal::SliceLength)),
+        "above" => (&[][..], up_to(Refusal::KeyElement)),
+        _ => (E::DONE, E::REFUSALS),
+    };
+    let refusals = refusals.iter().map(|refusal| refusal.number());
+    let answers = done.iter().copied().chain(refusals);
+    answers.map(|answer| answer.to_string()).collect()
+}
+
+/// The table of an entry that takes a key: what y is, and the answers.
+pub const fn table<E: Keyed>() -> Table {
+    Table {
+        of: Y,
+        columns: || answers_for::<E>(TARGETS[0]),
+        rows: || -> Rows {
+            let rows = TARGETS.map(|row| (row.to_string(), answers_for::<E>(row)));
+            rows.into_iter().filter(|row| !row.1.is_empty()).collect()
+        },
+        cell: |answer, taken| -> Cell { (target_of(taken).to_string(), answer.to_string()) },
+    }
 }
 
 /// Any sizes, also those that are refused; d is at least 1.
@@ -168,6 +220,7 @@ fn from_sample(sample: &Sample, name: &str, generator: &mut Generator) -> Option
     let words = match name {
         slices::H => &sample.h,
         slices::X => &sample.x,
+        slices::Y => &sample.y,
         slices::V => &sample.v,
         slices::R => &sample.r,
         slices::S => &sample.s,

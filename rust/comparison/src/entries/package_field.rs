@@ -6,7 +6,9 @@
 //! that were lent.
 
 use super::files::faults::set_value;
-use super::files::fields::{any_fields, serial_field, serials_about_powers, set_serial, HEAD};
+use super::files::fields::{
+    any_fields, serial_field, serials_about_powers, set_serial, walked, HEAD,
+};
 use super::files::{self, groups, File, Reader, BYTES};
 use super::{keyed, readers, stated, DONE};
 use crate::case::{Case, Entry, Group, Table};
@@ -68,14 +70,15 @@ pub const FIELD: Entry = Entry {
     table: Some(Table {
         of: "package",
         columns,
-        rows: || {
-            ["accepted", "refused"]
-                .map(|row| (row.to_string(), columns()))
-                .to_vec()
-        },
+        rows: || ROWS.map(|row| (row.to_string(), columns())).to_vec(),
         cell: |_, taken| {
-            let read = reference::read_package(taken.bytes(BYTES));
-            let row = if read.is_ok() { "accepted" } else { "refused" };
+            let bytes = taken.bytes(BYTES);
+            let [accepted, with_y, refused] = ROWS;
+            let row = match reference::read_package(bytes) {
+                Ok(_) if walked(bytes).any(|field| field.tag == tag::Y) => with_y,
+                Ok(_) => accepted,
+                Err(_) => refused,
+            };
             let tag = format!("{:02x}", taken.numbers[TAG]);
             let known = columns().contains(&tag);
             let column = if known { tag } else { OTHERS.to_string() };
@@ -92,6 +95,7 @@ pub const FIELD: Entry = Entry {
             groups::prefixes::<PackageField>(),
             groups::one_fault::<PackageField>(),
             groups::serials::<PackageField>(),
+            groups::targets::<PackageField>(),
             groups::two_faults::<PackageField>(),
             groups::order::<PackageField>(),
             groups::short::<PackageField>(),
@@ -101,6 +105,9 @@ pub const FIELD: Entry = Entry {
     },
     ..readers::ENTRY
 };
+
+/// The rows: packages that are accepted, without and with y, and others.
+const ROWS: [&str; 3] = ["accepted", "with y", "refused"];
 
 /// The column of the tags that a package doesn't have.
 const OTHERS: &str = "others";
@@ -179,7 +186,7 @@ const SERIALS: Group = Group::new("serials and the fields about them", |generato
         for serial in serials_about_powers() {
             set_serial(&mut package, serial_field(serial));
             let bytes = Lent::with_bytes(&join(&package), generator);
-            for tag in [tag::X, tag::SERIAL, tag::T, tag::A] {
+            for tag in [tag::X, tag::Y, tag::SERIAL, tag::T, tag::A] {
                 let part = part(&package, tag);
                 each(case(bytes.clone(), tag, Some(part), generator));
             }

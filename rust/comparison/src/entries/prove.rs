@@ -104,6 +104,7 @@ pub const PROVE: Entry = Entry {
         };
         [rounds::least(), vec![unsolved]].concat()
     },
+    table: Some(keyed::table::<Prove>()),
     ..keyed::ENTRY
 };
 
@@ -134,6 +135,20 @@ const EXAMPLES: Group = Group::new("examples of the specification", |generator, 
     each(accepted);
     let other = witnesses::with(&key_a, vec![1, 0]);
     each(case(&other, Some(TOP), generator));
+    // The same with the target 5, which these positions solve.
+    let with_target = Sample::key_a_with_target();
+    let mut accepted = case(&with_target, Some(DONE), generator);
+    let mut list = vec![stated(T, 0, 0_u16), stated(T, 1, 0_u16)];
+    list.extend(stated_element(A, 0, 5));
+    accepted.stated = Some(list);
+    each(accepted);
+    let other = witnesses::with(&with_target, vec![0, 1]);
+    each(case(&other, Some(TOP), generator));
+    let mut accepted = case(&Sample::three_with_target(), Some(DONE), generator);
+    let a = [31, 10].into_iter().enumerate();
+    let stated = a.flat_map(|(power, word)| stated_element(A, power, word));
+    accepted.stated = Some(stated.collect());
+    each(accepted);
     // For n = 3 the key and the material are free.
     for round in 0..20 {
         for (positions, answer) in [
@@ -189,14 +204,15 @@ const SMALL_N: Group = Group::new("n to 9, every m", |generator, each| {
 });
 
 /// Keys, of which all are solved but some of the last: random, one that every
-/// order solves with unit rows, one with x zero, and one whose elements are 2047
-/// where they aren't 0, solved when n is even.
+/// order solves with unit rows, one with x and y zero, and one whose H and x are
+/// 2047 where they aren't 0, solved when n is even, with y zero.
 const KEYS: [fn(Sizes, &mut Generator) -> Sample; 4] = [
     |Sizes { n, m, .. }, generator| Sample::solving(n, m, generator),
     witnesses::solved_by_unit_rows,
     |Sizes { n, m, .. }, generator| {
         let mut sample = Sample::solving(n, m, generator);
         sample.x.fill(0);
+        sample.y.fill(0);
         sample.h = generator.matrix(n, m);
         sample
     },
@@ -204,6 +220,7 @@ const KEYS: [fn(Sizes, &mut Generator) -> Sample; 4] = [
         let mut sample = Sample::solving(sizes.n, sizes.m, generator);
         sample.x.fill(F::LARGEST);
         sample.h = if sizes.n % 2 == 0 {
+            sample.y.fill(0);
             witnesses::solved_rows(&sample, Kind::Largest, generator)
         } else {
             Kind::Largest.rows(sizes, None, generator)

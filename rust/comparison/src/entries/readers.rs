@@ -51,7 +51,10 @@ pub const READ_PACKAGE: Entry = Entry {
         of: "field",
         columns: || table::columns(File::Package, &["0"]),
         rows: || table::rows(File::Package, &["0"]),
-        cell: |_, taken| table::cell(reference::judge_package(taken.bytes(BYTES))),
+        cell: |_, taken| {
+            let bytes = taken.bytes(BYTES);
+            table::cell(bytes, reference::judge_package(bytes))
+        },
     }),
     groups: || groups_of::<ReadPackage>(),
     ..ENTRY
@@ -66,7 +69,10 @@ pub const READ_CHECK_FILE: Entry = Entry {
         of: "field",
         columns: || table::columns(File::CheckFile, &["0"]),
         rows: || table::rows(File::CheckFile, &["0"]),
-        cell: |_, taken| table::cell(reference::judge_check_file(taken.bytes(BYTES))),
+        cell: |_, taken| {
+            let bytes = taken.bytes(BYTES);
+            table::cell(bytes, reference::judge_check_file(bytes))
+        },
     }),
     groups: || groups_of::<ReadCheckFile>(),
     ..ENTRY
@@ -144,27 +150,30 @@ fn case(bytes: Lent, answer: Option<u32>, generator: &mut Generator) -> Case {
     }
 }
 
-/// The fields of the file of key A.
-pub fn key_a(file: File) -> Vec<WrittenField> {
-    let fields = Sample::key_a().fields().expect("key A is solved");
-    file.part(&fields).to_vec()
+/// The fields of the files of key A, without and with a target.
+pub fn key_a(file: File) -> [Vec<WrittenField>; 2] {
+    [Sample::key_a(), Sample::key_a_with_target()].map(|sample| {
+        let fields = sample.fields().expect("key A is solved");
+        file.part(&fields).to_vec()
+    })
 }
 
-/// The file of key A with any serial, and with the head of each further field
+/// The files of key A with any serial, and with the head of each further field
 /// that can follow.
 const fn example<R: Reader>() -> Group {
     Group::new("key A", |generator, each| {
-        let mut fields = key_a(R::FILE);
-        let right = join(&fields);
-        each(files::case::<R>(&right, Some(DONE), generator));
-        for serial in [0, 1, 255, 256, 65_535, 65_536, 16_777_216, u32::MAX] {
-            set_serial(&mut fields, serial_field(serial));
-            each(files::case::<R>(&join(&fields), Some(DONE), generator));
-        }
-        for &tag in File::CheckFile.tags() {
-            let bytes = [&right[..], &[tag, 0, 0]].concat();
-            let answer = Refusal::BytesFollow.number();
-            each(files::case::<R>(&bytes, Some(answer), generator));
+        for mut fields in key_a(R::FILE) {
+            let right = join(&fields);
+            each(files::case::<R>(&right, Some(DONE), generator));
+            for serial in [0, 1, 255, 256, 65_535, 65_536, 16_777_216, u32::MAX] {
+                set_serial(&mut fields, serial_field(serial));
+                each(files::case::<R>(&join(&fields), Some(DONE), generator));
+            }
+            for &tag in File::CheckFile.tags() {
+                let bytes = [&right[..], &[tag, 0, 0]].concat();
+                let answer = Refusal::BytesFollow.number();
+                each(files::case::<R>(&bytes, Some(answer), generator));
+            }
         }
     })
 }

@@ -9,7 +9,7 @@ use crate::kinds::Kind;
 use crate::lent::Lent;
 use crate::library;
 use crate::named::Named;
-use crate::slices::{positions_below, DELTA, H, Q, T, VALUES as OUT, X};
+use crate::slices::{positions_below, DELTA, H, Q, T, VALUES as OUT, X, Y};
 use reference::constraint::masked_witness;
 use reference::key::{bits, rows, witness, Sizes};
 use reference::samples::{honest_q, Generator, Sample};
@@ -50,6 +50,7 @@ pub const VALUES: Entry = Entry {
         let rounds = rounds::groups::<Values>();
         [own, rounds, fault_groups::<Values>()].concat()
     },
+    table: Some(keyed::table::<Values>()),
     least: rounds::least,
     ..keyed::ENTRY
 };
@@ -121,7 +122,8 @@ const SMALL_N: Group = Group::new("n to 9, every m", |generator, each| {
 const EXTREMES: Group = Group::new(keyed::EXTREMES, |generator, each| {
     keyed::with_extremes(generator, &mut |sizes, turn, [h, x, t, q], generator| {
         let delta = Kind::EXTREMES[turn % 3];
-        let kinds = [(H, h), (X, x), (T, t), (Q, q), (DELTA, delta)];
+        let y = x.next_extreme(turn / 3);
+        let kinds = [(H, h), (X, x), (Y, y), (T, t), (Q, q), (DELTA, delta)];
         each(with_kinds(sizes, &kinds, generator));
     });
 });
@@ -129,8 +131,8 @@ const EXTREMES: Group = Group::new(keyed::EXTREMES, |generator, each| {
 impl InRounds for Values {
     /// Every other round has honest numbers.
     fn in_round(round: &Round, generator: &mut Generator, each: &mut dyn FnMut(Case)) {
-        let [h, x, t, q, delta, _] = round.kinds;
-        let kinds = [(H, h), (X, x), (T, t), (Q, q), (DELTA, delta)];
+        let [h, x, t, q, delta, y] = round.kinds;
+        let kinds = [(H, h), (X, x), (Y, y), (T, t), (Q, q), (DELTA, delta)];
         let mut case = with_kinds(round.sizes, &kinds, generator);
         if round.number % 2 == 1 {
             make_honest(&mut case, generator);
@@ -157,10 +159,21 @@ const ALL_T: Group = Group::new("all t for n = 2, 3, 4", |generator, each| {
 });
 
 const EXAMPLES: Group = Group::new("examples of the specification", |generator, each| {
-    let mut case = of_sample::<Values>(&Sample::key_a(), generator);
-    case.set_bytes(T, &[1, 1]);
-    let values = [5, 5, 10].into_iter().enumerate();
-    let stated = values.flat_map(|(j, word)| stated_element(OUT, j, word));
-    case.stated = Some(stated.collect());
-    each(case.answering(Some(DONE)));
+    let examples: [(Sample, &[u8], &[u16]); 3] = [
+        (Sample::key_a(), &[1, 1], &[5, 5, 10]),
+        (Sample::key_a_with_target(), &[0, 0], &[5, 5, 10]),
+        (
+            Sample::three_with_target(),
+            &[0, 1, 0, 0, 1, 0],
+            &[16, 30, 16, 0],
+        ),
+    ];
+    for (sample, t, values) in examples {
+        let mut case = of_sample::<Values>(&sample, generator);
+        case.set_bytes(T, t);
+        let values = values.iter().enumerate();
+        let stated = values.flat_map(|(j, &word)| stated_element(OUT, j, word));
+        case.stated = Some(stated.collect());
+        each(case.answering(Some(DONE)));
+    }
 });

@@ -67,8 +67,8 @@ pub fn solves(taken: &Taken) -> bool {
     samples::solved(taken.key(), taken.bytes(POSITIONS))
 }
 
-/// H of this kind with which the positions of the sample solve each row but
-/// those with another sum than 0.
+/// H of this kind, each row of which has this sum for the positions of the
+/// sample, where some entry of x is not 0.
 pub fn rows_with_sums(
     sample: &Sample,
     kind: Kind,
@@ -83,9 +83,10 @@ pub fn rows_with_sums(
     kind.rows(keyed::sizes(sample.n, sample.m), Some(wanted), generator)
 }
 
-/// H of this kind with which the positions of the sample solve each row.
+/// H of this kind with which the positions of the sample reach its y in each
+/// row.
 pub fn solved_rows(sample: &Sample, kind: Kind, generator: &mut Generator) -> Vec<u16> {
-    rows_with_sums(sample, kind, &vec![0; sample.m], generator)
+    rows_with_sums(sample, kind, &sample.y, generator)
 }
 
 /// Changes H, whose kind is given, so that row e alone has the top with this
@@ -97,13 +98,13 @@ pub fn unsolve_row(
     bit: usize,
     generator: &mut Generator,
 ) {
-    let mut sums = vec![0; sample.m];
-    sums[e] = 1 << bit;
+    let mut sums = sample.y.clone();
+    sums[e] ^= 1 << bit;
     sample.h = rows_with_sums(sample, kind, &sums, generator);
 }
 
 /// A key of these sizes that every order solves, with unit rows of which each
-/// has a second one.
+/// has a second entry.
 pub fn solved_by_unit_rows(sizes: Sizes, generator: &mut Generator) -> Sample {
     let mut sample = Sample::solving(sizes.n, sizes.m, generator);
     sample.x = vec![generator.word() | 1; sizes.n];
@@ -171,8 +172,8 @@ fn other_positions(n: usize, generator: &mut Generator) -> Vec<Witness> {
 /// Keys of this size, each with all positions below 2^d.
 fn all_positions_of(n: usize, m: usize, generator: &mut Generator) -> Vec<Witness> {
     let keys = [
-        Sample::solving(n, m, generator),
-        Sample::solving(n, m, generator),
+        Sample::without_target(n, m, generator),
+        Sample::with_target(n, m, generator),
         Sample::solved_by_all(n, m, generator),
         solved_by_unit_rows(keyed::sizes(n, m), generator),
     ];
@@ -185,8 +186,8 @@ fn all_positions_of(n: usize, m: usize, generator: &mut Generator) -> Vec<Witnes
 }
 
 /// A key that the positions solve, with the slices of this round: H, x, u, v,
-/// the masks and the weights. One in four orders is 0 to n - 1. The verifier's
-/// numbers are left out.
+/// the masks and the weights; y is of the kind of u, and zero where x is. One in
+/// four orders is 0 to n - 1. The verifier's numbers are left out.
 pub fn of_round(round: &Round, generator: &mut Generator) -> Sample {
     let Sizes { n, m, d } = round.sizes;
     let [h, x, u, v, masks, alpha] = round.kinds;
@@ -197,6 +198,7 @@ pub fn of_round(round: &Round, generator: &mut Generator) -> Sample {
         d,
         h: Vec::new(),
         x: x.words(sizes.x_words(), generator),
+        y: u.words(sizes.y_words(), generator),
         positions: match round.number % 4 {
             3 => (0..n as u8).collect(),
             _ => generator.order(n),
@@ -211,6 +213,9 @@ pub fn of_round(round: &Round, generator: &mut Generator) -> Sample {
         masks: Vec::new(),
         serial: 0,
     };
+    if sample.x.iter().all(|&entry| entry == 0) {
+        sample.y.fill(0);
+    }
     sample.h = solved_rows(&sample, h, generator);
     sample
 }

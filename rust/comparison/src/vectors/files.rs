@@ -11,14 +11,15 @@ use crate::entries::readers::{M, N, SERIAL};
 use crate::lent::Lent;
 use crate::named::Named;
 use crate::program;
-use crate::slices::{self, ALPHA, DELTA, H, MASKS, Q, X};
-use reference::package::{tag, SERIAL_LENGTHS};
+use crate::slices::{self, ALPHA, DELTA, H, MASKS, Q, X, Y};
+use reference::package::{stated_of, tag, SERIAL_LENGTHS};
 use std::ops::Range;
 
 /// The slices of verify, each with the tag of its field.
-const SLICES: [(&str, u8); 8] = [
+const SLICES: [(&str, u8); 9] = [
     (H, tag::H),
     (X, tag::X),
+    (Y, tag::Y),
     (slices::T, tag::T),
     (slices::A, tag::A),
     (Q, tag::Q),
@@ -37,6 +38,9 @@ impl Fields {
         let mut fields = Vec::new();
         let mut at = 0;
         for &tag in File::CheckFile.tags() {
+            if stated_of(tag).optional && bytes.get(at) != Some(&tag) {
+                continue;
+            }
             let head = bytes.get(at..at + HEAD);
             let Some(&[_, high, low]) = head.filter(|head| head[0] == tag) else {
                 return Err(format!("{}: no field {tag:02x} at offset {at}", file.name));
@@ -61,10 +65,11 @@ impl Fields {
         field.map(|(_, range)| range.clone())
     }
 
-    /// The content of the field with this tag, which the file has.
-    fn content(&self, file: &List, tag: u8) -> List {
-        let range = self.range(tag).expect("a field of a check file");
-        file.part(range.start, range.len())
+    /// The content of each field, by its tag.
+    fn contents(&self, file: &List) -> Vec<(u8, List)> {
+        let fields = self.0.iter();
+        let content = |range: &Range<usize>| file.part(range.start, range.len());
+        fields.map(|(tag, range)| (*tag, content(range))).collect()
     }
 
     /// The package that the check file begins with.
@@ -101,12 +106,19 @@ fn same(found: &List, expected: &List) -> Result<(), String> {
     Ok(())
 }
 
-/// The content of a field, as the slice of verify with this name.
-fn as_slice(name: &str, content: List) -> List {
-    if slices::named(name).elements.are_words() {
-        content.joined_bytes()
-    } else {
-        content
+/// The content with this tag, where the list has it.
+fn with_tag(contents: &[(u8, List)], tag: u8) -> Option<&List> {
+    let content = contents.iter().find(|(other, _)| *other == tag);
+    content.map(|(_, content)| content)
+}
+
+/// The content of a field, as the slice of verify with this name; where y is
+/// absent, m zeros.
+fn as_slice(name: &'static str, content: Option<&List>, m: usize) -> List {
+    match content {
+        Some(content) if slices::named(name).elements.are_words() => content.joined_bytes(),
+        Some(content) => content.clone(),
+        None => List::zeros(name, m),
     }
 }
 
@@ -126,7 +138,8 @@ fn serial_content(serial: &List) -> List {
     serial.in_bytes(if fits { short } else { long })
 }
 
-/// The contents of the fields of a text, by their tags.
+/// The contents of the fields of a text, by their tags; a y of zeros has no
+/// field.
 fn contents(text: &Text) -> Vec<(u8, List)> {
     let slices = text.slices(&text.solving);
     let mut list = vec![
@@ -134,7 +147,8 @@ fn contents(text: &Text) -> Vec<(u8, List)> {
         (tag::SERIAL, serial_content(&text.serial)),
     ];
     let others = SLICES.iter();
-    list.extend(others.map(|&(name, tag)| (tag, as_content(name, slices[name]))));
+    let written = others.filter(|&&(name, _)| name != Y || !text.y.is_zero());
+    list.extend(written.map(|&(name, tag)| (tag, as_content(name, slices[name]))));
     list
 }
 
@@ -197,9 +211,8 @@ impl Comparison<'_> {
         let package = fields.package(file);
         for tag in 0..=255 {
             let range = fields.range(tag).filter(|range| range.end <= package.len());
-            let content = contents.iter().find(|(other, _)| *other == tag);
-            let field = range.zip(content);
-            let field = field.map(|(range, (_, content))| (range.start, content));
+            let field = range.zip(with_tag(contents, tag));
+            let field = field.map(|(range, content)| (range.start, content));
             self.package_field(&package, tag, field)?;
         }
         Ok(())
@@ -213,14 +226,14 @@ impl Comparison<'_> {
         self.read("read check file", file, stated)?;
         self.read("read package", &fields.package(file), stated)?;
 
-        let tags = File::CheckFile.tags().iter();
-        let contents: Vec<(u8, List)> = tags.map(|&tag| (tag, fields.content(file, tag))).collect();
+        let contents = fields.contents(file);
         self.package_fields(file, &fields, &contents)?;
 
         let taken = self.file(file);
         self.call("check", taken, Named::new(), Stated::answer(&line.verdict))?;
 
-        let slices = SLICES.map(|(name, tag)| (name, as_slice(name, fields.content(file, tag))));
+        let m = line.m.value(0);
+        let slices = SLICES.map(|(name, tag)| (name, as_slice(name, with_tag(&contents, tag), m)));
         let slices = slices.iter().map(|(name, list)| (*name, list));
         self.verify(&slices.collect(), line)?;
         self.program(file, line)
@@ -253,8 +266,13 @@ impl Comparison<'_> {
         let Text { file, line, .. } = text;
         let fields = Fields::of(file)?;
         let contents = contents(text);
-        for (tag, content) in &contents {
-            same(&fields.content(file, *tag), content)?;
+        let found = fields.contents(file);
+        for &tag in File::CheckFile.tags() {
+            match (with_tag(&found, tag), with_tag(&contents, tag)) {
+                (Some(found), Some(content)) => same(found, content)?,
+                (None, None) => {}
+                _ => return Err(format!("{}: field {tag:02x} of one alone", file.name)),
+            }
         }
         // The fields that the library gives are those of the text.
         self.read("read check file", file, [&text.n, &text.m, &text.serial])?;

@@ -54,6 +54,11 @@ impl List {
         }
     }
 
+    /// Zeros that no line states.
+    pub fn zeros(name: &'static str, count: usize) -> List {
+        List::of_bytes(name, &vec![0; count])
+    }
+
     /// The bytes of a file without lines.
     pub fn of_bytes(name: &'static str, bytes: &[u8]) -> List {
         let words = bytes.iter().enumerate().map(|(place, &byte)| Word {
@@ -65,6 +70,11 @@ impl List {
             name,
             words: words.collect(),
         }
+    }
+
+    /// Whether all words are zero.
+    pub fn is_zero(&self) -> bool {
+        self.words.iter().all(|word| word.value == 0)
     }
 
     /// The number of words.

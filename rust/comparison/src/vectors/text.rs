@@ -48,6 +48,8 @@ pub struct Text {
     pub h: List,
     /// The vector.
     pub x: List,
+    /// The target.
+    pub y: List,
     /// The mask bits.
     pub u: List,
     /// The offsets.
@@ -90,6 +92,7 @@ impl Text {
         Named::from([
             (slices::H, &self.h),
             (slices::X, &self.x),
+            (slices::Y, &self.y),
             (slices::POSITIONS, &witness.positions),
             (slices::U, &self.u),
             (slices::V, &self.v),
@@ -306,6 +309,7 @@ pub fn parsed(text: &str) -> Result<Text, String> {
     let serial = lines.single("serial", 1, Form::Decimal)?;
     let h = lines.numbered("h", m, n, Form::F)?;
     let x = lines.single("x", n, Form::F)?;
+    let y = lines.single("y", m, Form::F)?;
     let positions = lines.single("positions", n, Form::Small)?;
     let u = lines.numbered("u", n, d, Form::Small)?;
     let v = lines.numbered("v", n, d, Form::K)?;
@@ -328,6 +332,7 @@ pub fn parsed(text: &str) -> Result<Text, String> {
         serial,
         h,
         x,
+        y,
         u,
         v,
         r,

@@ -33,6 +33,7 @@ pub struct Case {
     pub m: usize,
     pub h: Vec<u16>,
     pub x: Vec<u16>,
+    pub y: Vec<u16>,
     pub positions: Vec<u8>,
     pub u: Vec<u8>,
     pub v: Vec<u16>,
@@ -60,6 +61,7 @@ impl Case {
             m: 1,
             h: vec![2, 1],
             x: vec![1, 2],
+            y: vec![0],
             positions: vec![0, 1],
             u: vec![1, 0],
             v: words(&[1, 4]),
@@ -78,6 +80,18 @@ impl Case {
         }
     }
 
+    /// Key A with the target 5, which the positions 1 0 solve: x' = (2 1), and H x'
+    /// is 4 + 1. Now t is 0 0, and the polynomials, the values and a are those of
+    /// key A.
+    pub fn key_a_with_target() -> Case {
+        Case {
+            y: vec![5],
+            positions: vec![1, 0],
+            t: vec![0, 0],
+            ..Case::key_a()
+        }
+    }
+
     /// n = 3, m = 1, H = (1 1 1), x = (1 2 3), positions 2 0 1: every order
     /// solves this key, since 1 + 2 + 3 is 0. The offsets are 1 for digit 0 and
     /// 0 for digit 1, so z(i,j) is the product of its two bits times X^2 plus
@@ -88,6 +102,7 @@ impl Case {
             m: 1,
             h: vec![1, 1, 1],
             x: vec![1, 2, 3],
+            y: vec![0],
             positions: vec![2, 0, 1],
             u: vec![0, 1, 1, 1, 0, 0],
             v: words(&[1, 0, 1, 0, 1, 0]),
@@ -106,7 +121,19 @@ impl Case {
         }
     }
 
-    /// n = 64 with H(e,e) = 1 and no other entry of H, x, offsets, masks and
+    /// The same with H = (1 1 2) and the target 6. x'(0) is 3 X^2 + 2 X, x'(1) is
+    /// X^2 + 2 X and x'(2) is 2 X^2 + 2 X, so H x' is 6 X^2 + 4 X, and polynomial 3
+    /// is 4 X.
+    pub fn three_with_target() -> Case {
+        Case {
+            h: vec![1, 1, 2],
+            y: vec![6],
+            a: words(&[8, 16]),
+            ..Case::three()
+        }
+    }
+
+    /// n = 64 with H(e,e) = 1 and no other entry of H, x, y, offsets, masks and
     /// weights zero, positions 0 to 63: all polynomials are zero, and so is the
     /// proof.
     pub fn zero_64(m: usize) -> Case {
@@ -120,6 +147,7 @@ impl Case {
             m,
             h,
             x: vec![0; n],
+            y: vec![0; m],
             t: positions.iter().flat_map(digits).collect(),
             positions,
             u: vec![0; n * d],
@@ -144,6 +172,7 @@ impl Case {
             m: self.m,
             h: &self.h,
             x: &self.x,
+            y: &self.y,
         }
     }
 

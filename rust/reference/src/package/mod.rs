@@ -6,11 +6,12 @@ mod written;
 pub use stated::{stated_of, tag, Kind, Stated, CHECK_FILE_TAGS, PACKAGE_TAGS, SERIAL_LENGTHS};
 pub use written::{
     check_fields, field_of, head_start, index_of, join, package_fields, package_part, serial_bytes,
-    write_check_file, write_package, WrittenField,
+    write_check_file, write_package, y_field, WrittenField,
 };
 
 use crate::key::{bits, elements_of_f, elements_of_k, Sizes};
 use crate::refusal::Refusal;
+use crate::small_field::F;
 use stated::FIELDS;
 use std::ops::Range;
 
@@ -154,13 +155,18 @@ fn serial(content: &[u8]) -> u32 {
     bytes.fold(0, |number, byte| 256 * number + byte)
 }
 
-/// The place P5: 1, 2, 4, 5 or 6 "as above, for the field's content", and 19.
+/// The place P5: 1, 2, 4, 5 or 6 "as above, for the field's content", 14 "after
+/// 4", and 19.
 /// Answers the sizes: those of the content where it has some, else those before
 /// it.
 fn judge_values(kind: Kind, content: &[u8], sizes: Sizes) -> Result<Sizes, Refusal> {
     match kind {
         Kind::Sizes => Sizes::judged(usize::from(content[0]), usize::from(content[1])),
         Kind::Key => elements_of_f(&words(content)).map(|_| sizes),
+        Kind::Target => match elements_of_f(&words(content))? {
+            y if y.iter().all(|&element| element == F::ZERO) => Err(Refusal::ZeroTarget),
+            _ => Ok(sizes),
+        },
         // "Serials that fit two bytes are still written in two, so each package
         // keeps a single form."
         Kind::Serial if serial_bytes(serial(content)) != content => Err(Refusal::LongSerial),

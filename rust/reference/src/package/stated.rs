@@ -10,6 +10,8 @@ pub mod tag {
     pub const H: u8 = 0x02;
     /// The vector x.
     pub const X: u8 = 0x03;
+    /// The target y.
+    pub const Y: u8 = 0x04;
     /// The serial.
     pub const SERIAL: u8 = 0x05;
     /// The masked witness t.
@@ -31,8 +33,10 @@ pub mod tag {
 pub enum Kind {
     /// n and m, one byte each.
     Sizes,
-    /// Elements of F of the key.
+    /// Elements of F of H or x.
     Key,
+    /// Elements of F of y, not all zero.
+    Target,
     /// The serial.
     Serial,
     /// Bytes 0 or 1.
@@ -80,11 +84,16 @@ pub const SERIAL_LENGTHS: [usize; 2] = [2, 4];
 /// serial (2, unsigned, any value); 06 t (nd bytes); 07 a (24d). A check file
 /// is a package followed by 11 q (24nd), 12 mask numbers (24(d - 1), the only
 /// field that may be empty), 13 Δ (24), 14 α (24(n + m))." The serial has a
-/// second length since.
+/// second length since, and "The package may have field 04, y, of 2m bytes,
+/// between 03 and 05".
 pub const FIELDS: &[Stated] = &[
     stated(tag::SIZES, "sizes", Kind::Sizes, |_| vec![2]),
     stated(tag::H, "h", Kind::Key, |k| vec![2 * k.m * k.n]),
     stated(tag::X, "x", Kind::Key, |k| vec![2 * k.n]),
+    Stated {
+        optional: true,
+        ..stated(tag::Y, "y", Kind::Target, |k| vec![2 * k.m])
+    },
     stated(tag::SERIAL, "serial", Kind::Serial, |_| {
         SERIAL_LENGTHS.to_vec()
     }),
@@ -120,10 +129,10 @@ const fn tags<const COUNT: usize>() -> [u8; COUNT] {
     tags
 }
 
-/// The tags of a package.
+/// The tags of a package, that of a field that may be absent among them.
 pub const PACKAGE_TAGS: [u8; PACKAGE_FIELDS] = tags();
 
-/// The tags of a check file.
+/// The tags of a check file, that of a field that may be absent among them.
 pub const CHECK_FILE_TAGS: [u8; FIELDS.len()] = tags();
 
 /// What is stated of the field with this tag, which a check file has.

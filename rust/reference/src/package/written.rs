@@ -74,17 +74,29 @@ pub fn serial_bytes(serial: u32) -> Vec<u8> {
     }
 }
 
+/// The field y, whatever it holds.
+pub fn y_field(y: &[u16]) -> WrittenField {
+    WrittenField::new(tag::Y, word_bytes(y))
+}
+
 /// The fields of a package in their order; nothing is judged. n and m are
-/// written in one byte each.
+/// written in one byte each. y: "absent means all zero, and the writer leaves it
+/// out then".
 pub fn package_fields(key: Key<'_>, serial: u32, t: &[u8], a: &[u16]) -> Vec<WrittenField> {
-    vec![
+    let mut fields = vec![
         WrittenField::new(tag::SIZES, vec![key.n as u8, key.m as u8]),
         WrittenField::new(tag::H, word_bytes(key.h)),
         WrittenField::new(tag::X, word_bytes(key.x)),
+    ];
+    if key.y.iter().any(|&element| element != 0) {
+        fields.push(y_field(key.y));
+    }
+    fields.extend([
         WrittenField::new(tag::SERIAL, serial_bytes(serial)),
         WrittenField::new(tag::T, t.to_vec()),
         WrittenField::new(tag::A, word_bytes(a)),
-    ]
+    ]);
+    fields
 }
 
 /// The fields that a check file has after the package.

@@ -61,6 +61,7 @@ impl Material {
         vec![
             ("h", Lent::Words(&mut sample.h)),
             ("x", Lent::Words(&mut sample.x)),
+            ("y", Lent::Words(&mut sample.y)),
             ("positions", Lent::Bytes(&mut sample.positions)),
             ("u", Lent::Bytes(&mut sample.u)),
             ("v", Lent::Words(&mut sample.v)),

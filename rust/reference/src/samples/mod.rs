@@ -7,7 +7,7 @@ mod rows;
 pub use generator::Generator;
 pub use lent::{Lent, Material};
 pub use rows::{
-    in_order, independent, independent_rows, orthogonal_row, quotient, solved, unit_rows,
+    in_order, independent, independent_rows, orthogonal_row, quotient, solved, times, unit_rows,
 };
 
 use crate::entries::{constraints, prove, values, verify, Verdict};
@@ -58,6 +58,8 @@ pub struct Sample {
     pub h: Vec<u16>,
     /// The vector x.
     pub x: Vec<u16>,
+    /// The target y.
+    pub y: Vec<u16>,
     /// The positions.
     pub positions: Vec<u8>,
     /// The mask bits.
@@ -82,13 +84,49 @@ pub struct Sample {
 
 impl Sample {
     /// A random key that the random order of its positions solves, with random
-    /// material.
+    /// material; every other one has a target.
     pub fn solving(n: usize, m: usize, generator: &mut Generator) -> Sample {
+        match generator.below(2) {
+            0 => Sample::without_target(n, m, generator),
+            _ => Sample::with_target(n, m, generator),
+        }
+    }
+
+    /// A solving sample whose y is zero.
+    pub fn without_target(n: usize, m: usize, generator: &mut Generator) -> Sample {
+        Sample::drawn(n, m, generator, orthogonal_row)
+    }
+
+    /// A solving sample whose y is not all zero; about a fourth of its elements
+    /// are.
+    pub fn with_target(n: usize, m: usize, generator: &mut Generator) -> Sample {
+        loop {
+            let sample = Sample::drawn(n, m, generator, |entries, generator| {
+                match generator.below(4) {
+                    0 => orthogonal_row(entries, generator),
+                    _ => generator.words(entries.len()),
+                }
+            });
+            if sample.has_target() {
+                return sample;
+            }
+        }
+    }
+
+    /// A solving sample whose rows of H are drawn for x in the order of the
+    /// positions; y is H times this.
+    fn drawn(
+        n: usize,
+        m: usize,
+        generator: &mut Generator,
+        row: fn(&[u16], &mut Generator) -> Vec<u16>,
+    ) -> Sample {
         let sizes = Sizes::judged(n, m).expect("sizes that are not refused");
         let x = generator.words(n);
         let positions = generator.order(n);
         let entries = in_order(&x, &positions);
-        let h = independent_rows(m, || orthogonal_row(&entries, generator));
+        let h = independent_rows(m, || row(&entries, generator));
+        let y = times(&h, &entries);
         let u = generator.bits(sizes.bit_bytes());
         let v = generator.words(sizes.correlation_words());
         let r = generator.words(sizes.mask_words());
@@ -102,6 +140,7 @@ impl Sample {
             d: sizes.d,
             h,
             x,
+            y,
             positions,
             u,
             v,
@@ -117,17 +156,32 @@ impl Sample {
         sample
     }
 
-    /// A sample whose key every order solves: all entries of x are the same,
-    /// and each row of H has the sum zero.
+    /// A sample whose key every order solves: all entries of x are the same.
+    /// Without a target each row of H has the sum zero.
     pub fn solved_by_all(n: usize, m: usize, generator: &mut Generator) -> Sample {
         let mut sample = Sample::solving(n, m, generator);
+        let target = sample.has_target();
         sample.x = vec![generator.word() | 1; n];
         sample.h = independent_rows(m, || {
             let mut row = generator.words(n);
-            row[0] = row[1..].iter().fold(0, |sum, word| sum ^ word);
+            if !target {
+                row[0] = row[1..].iter().fold(0, |sum, word| sum ^ word);
+            }
             row
         });
+        sample.set_target();
         sample
+    }
+
+    /// Whether y is not all zero.
+    pub fn has_target(&self) -> bool {
+        self.y.iter().any(|&element| element != 0)
+    }
+
+    /// Sets y to H times x in the order of the positions, which are below n: an
+    /// order then solves the key.
+    pub fn set_target(&mut self) {
+        self.y = times(&self.h, &in_order(&self.x, &self.positions));
     }
 
     /// Key A of the specification with positions 0 1, Δ = 2, α = 1, 2, 1 and the
@@ -139,6 +193,7 @@ impl Sample {
             d: 1,
             h: vec![2, 1],
             x: vec![1, 2],
+            y: vec![0],
             positions: vec![0, 1],
             u: vec![1, 0],
             v: elements(&[1, 4]),
@@ -152,6 +207,16 @@ impl Sample {
         };
         sample.make_honest();
         sample
+    }
+
+    /// Key A with the target y = 5, which the positions 1 0 solve: x' = 2 1, and
+    /// H x' = 4 + 1 = 5.
+    pub fn key_a_with_target() -> Sample {
+        Sample {
+            y: vec![5],
+            positions: vec![1, 0],
+            ..Sample::key_a()
+        }
     }
 
     /// The key with n = 3, m = 1, H = 1 0 0 and x = 0 1 2 of the examples, with
@@ -174,6 +239,16 @@ impl Sample {
         sample
     }
 
+    /// The same key with the target y = 1, which the positions 1 0 2 solve: x' = 1
+    /// 0 2, and H x' = 1.
+    pub fn three_with_target() -> Sample {
+        Sample {
+            y: vec![1],
+            positions: vec![1, 0, 2],
+            ..Sample::three()
+        }
+    }
+
     /// The key.
     pub fn key(&self) -> Key<'_> {
         Key {
@@ -181,6 +256,7 @@ impl Sample {
             m: self.m,
             h: &self.h,
             x: &self.x,
+            y: &self.y,
         }
     }
 

@@ -19,19 +19,28 @@ pub fn in_order(x: &[u16], positions: &[u8]) -> Vec<u16> {
         .collect()
 }
 
-/// Whether the positions are 0 to n - 1, each once, and "H times x in that
-/// order" is zero. All words are at most 2047.
+/// The sum of the products of the entries of a row of H and of a vector.
+fn sum_of_products(row: &[u16], entries: &[u16]) -> F {
+    let products = row.iter().zip(entries);
+    products.fold(F::ZERO, |sum, (&h, &x)| sum + small(h) * small(x))
+}
+
+/// H times a vector. All words are at most 2047.
+pub fn times(h: &[u16], entries: &[u16]) -> Vec<u16> {
+    let rows = h.chunks(entries.len());
+    rows.map(|row| sum_of_products(row, entries).word())
+        .collect()
+}
+
+/// Whether the positions are 0 to n - 1, each once, and "H times x' must equal
+/// y", where x' is x in that order. All words are at most 2047.
 pub fn solved(key: Key<'_>, positions: &[u8]) -> bool {
     let mut sorted = positions.to_vec();
     sorted.sort_unstable();
     if !sorted.into_iter().map(usize::from).eq(0..key.n) {
         return false;
     }
-    let entries = in_order(key.x, positions);
-    key.h.chunks(key.n).all(|row| {
-        let products = row.iter().zip(&entries);
-        products.fold(F::ZERO, |sum, (&h, &x)| sum + small(h) * small(x)) == F::ZERO
-    })
+    times(key.h, &in_order(key.x, positions)) == key.y
 }
 
 /// The word that times this one, which isn't 0, is a product.

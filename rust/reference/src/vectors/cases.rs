@@ -31,8 +31,9 @@ impl Cases {
         cases.one_fault(&key_a);
         cases.two_faults(&key_a);
         cases.two_fields(&key_a);
-        cases.larger_key(&Fields::of(&sample(5, 2)));
+        cases.larger_key(&sample(5, 2));
         cases.serials(&Sample::key_a());
+        cases.targets();
         cases.ends(&key_a);
         cases.long(&key_a);
         cases.largest();

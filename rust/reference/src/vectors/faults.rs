@@ -3,15 +3,16 @@
 use super::cases::Cases;
 use super::fields::{has_words, number_of_excess, set, Fields};
 use crate::package::{stated_of, tag, WrittenField, HEAD};
+use crate::samples::Sample;
 use std::collections::BTreeSet;
 
 /// Another tag.
-pub(super) fn other_tag(field: &mut WrittenField) {
+fn other_tag(field: &mut WrittenField) {
     field.tag ^= 0x80;
 }
 
 /// Another length.
-pub(super) fn other_length(field: &mut WrittenField) {
+fn other_length(field: &mut WrittenField) {
     field.length ^= 1;
 }
 
@@ -34,16 +35,18 @@ impl Cases {
     }
 
     /// The refusals of place P2: a field with another tag, and one that is gone,
-    /// there twice, or after the next.
-    fn tag_faults(&mut self, fields: &Fields, tag: u8) {
+    /// unless it may be absent, there twice, or after the next.
+    pub(super) fn tag_faults(&mut self, fields: &Fields, tag: u8) {
         let f = stated_of(tag).name;
         let index = fields.index(tag);
         let last = tag == fields.last();
 
         let bytes = fields.with(tag, other_tag).bytes();
         self.refused(format!("tag_{f}_wrong"), bytes, 10);
-        let bytes = fields.edited(|list| drop(list.remove(index)));
-        self.refused(format!("gone_{f}"), bytes, if last { 9 } else { 10 });
+        if !stated_of(tag).optional {
+            let bytes = fields.without(tag).bytes();
+            self.refused(format!("gone_{f}"), bytes, if last { 9 } else { 10 });
+        }
         let bytes = fields.edited(|list| list.insert(index, list[index].clone()));
         self.refused(format!("twice_{f}"), bytes, if last { 12 } else { 10 });
         if !last {
@@ -54,7 +57,7 @@ impl Cases {
 
     /// The refusals of place P3, with the content as it was and with content of
     /// that length.
-    fn length_faults(&mut self, fields: &Fields, tag: u8) {
+    pub(super) fn length_faults(&mut self, fields: &Fields, tag: u8) {
         let f = stated_of(tag).name;
         let length = fields.field(tag).length;
         let mut lengths = vec![("more", length + 1), ("most", 65_535)];
@@ -98,24 +101,29 @@ impl Cases {
         let (words, others): (Vec<u8>, Vec<u8>) =
             fields.tags().into_iter().partition(|&tag| has_words(tag));
         for tag in words.into_iter().chain(others) {
-            let f = stated_of(tag).name;
-            let length = fields.field(tag).content.len();
-            let Some(number) = number_of_excess(tag).filter(|_| length > 0) else {
-                continue;
-            };
-            let (values, count) = if has_words(tag) {
-                ([2048, 4096, 32_768, 65_535], length / 2)
-            } else {
-                ([2, 3, 128, 255], length)
-            };
-            let with = |place, value| fields.with(tag, |field| set(field, place, value)).bytes();
-            for value in values {
-                self.refused(format!("{f}_{value}"), with(0, value), number);
-            }
-            let least = values[0];
-            for (word, place) in [("mid", count / 2), ("end", count - 1)] {
-                self.refused(format!("{f}_{least}_{word}"), with(place, least), number);
-            }
+            self.large_values(fields, tag);
+        }
+    }
+
+    /// Those of the field with this tag, if it can have one.
+    pub(super) fn large_values(&mut self, fields: &Fields, tag: u8) {
+        let f = stated_of(tag).name;
+        let length = fields.field(tag).content.len();
+        let Some(number) = number_of_excess(tag).filter(|_| length > 0) else {
+            return;
+        };
+        let (values, count) = if has_words(tag) {
+            ([2048, 4096, 32_768, 65_535], length / 2)
+        } else {
+            ([2, 3, 128, 255], length)
+        };
+        let with = |place, value| fields.with(tag, |field| set(field, place, value)).bytes();
+        for value in values {
+            self.refused(format!("{f}_{value}"), with(0, value), number);
+        }
+        let least = values[0];
+        for (word, place) in [("mid", count / 2), ("end", count - 1)] {
+            self.refused(format!("{f}_{least}_{word}"), with(place, least), number);
         }
     }
 
@@ -137,52 +145,57 @@ impl Cases {
     /// Two faults in one field, and a fault before bytes that follow the file.
     pub(super) fn two_faults(&mut self, fields: &Fields) {
         for tag in fields.tags() {
-            let f = stated_of(tag).name;
-            let [tagged, sized] = [other_tag, other_length].map(|change| fields.with(tag, change));
-
-            // P1 and P2.
-            let mut bytes = fields.cut(tag, HEAD - 1);
-            bytes[fields.start(tag)] ^= 0x80;
-            self.refused(format!("two_{f}_head_tag"), bytes, 9);
-            // P2 and P3.
-            let other = fields.with(tag, |field| {
-                field.length += 1;
-                other_tag(field);
-            });
-            self.refused(format!("two_{f}_tag_length"), other.bytes(), 10);
-            // P3 and P4.
-            let bytes = sized.cut(tag, HEAD);
-            self.refused(format!("two_{f}_length_cut"), bytes, 11);
-            // P2 and P4.
-            let mut bytes = fields.cut(tag, HEAD);
-            bytes[fields.start(tag)] ^= 0x80;
-            self.refused(format!("two_{f}_tag_cut"), bytes, 10);
-            // P2 and P6, P3 and P6.
-            let bytes = followed(tagged.bytes());
-            self.refused(format!("two_{f}_tag_after"), bytes, 10);
-            let bytes = followed(sized.bytes());
-            self.refused(format!("two_{f}_length_after"), bytes, 11);
-
-            let Some((number, faulty)) = fields.with_value_fault(tag) else {
-                continue;
-            };
-            let length = faulty.field(tag).content.len();
-            // P2 and P5.
-            let bytes = faulty.with(tag, other_tag).bytes();
-            self.refused(format!("two_{f}_tag_value"), bytes, 10);
-            // P3 and P5.
-            let bytes = faulty.with(tag, other_length).bytes();
-            self.refused(format!("two_{f}_length_value"), bytes, 11);
-            // P4 and P5.
-            let bytes = faulty.cut(tag, HEAD + length - 1);
-            self.refused(format!("two_{f}_cut_value"), bytes, 9);
-            // P5, and the file ends after the field.
-            let bytes = faulty.cut(tag, HEAD + length);
-            self.refused(format!("two_{f}_value_end"), bytes, number);
-            // P5 and P6.
-            let bytes = followed(faulty.bytes());
-            self.refused(format!("two_{f}_value_after"), bytes, number);
+            self.two_faults_of(fields, tag);
         }
+    }
+
+    /// Those of the field with this tag.
+    pub(super) fn two_faults_of(&mut self, fields: &Fields, tag: u8) {
+        let f = stated_of(tag).name;
+        let [tagged, sized] = [other_tag, other_length].map(|change| fields.with(tag, change));
+
+        // P1 and P2.
+        let mut bytes = fields.cut(tag, HEAD - 1);
+        bytes[fields.start(tag)] ^= 0x80;
+        self.refused(format!("two_{f}_head_tag"), bytes, 9);
+        // P2 and P3.
+        let other = fields.with(tag, |field| {
+            field.length += 1;
+            other_tag(field);
+        });
+        self.refused(format!("two_{f}_tag_length"), other.bytes(), 10);
+        // P3 and P4.
+        let bytes = sized.cut(tag, HEAD);
+        self.refused(format!("two_{f}_length_cut"), bytes, 11);
+        // P2 and P4.
+        let mut bytes = fields.cut(tag, HEAD);
+        bytes[fields.start(tag)] ^= 0x80;
+        self.refused(format!("two_{f}_tag_cut"), bytes, 10);
+        // P2 and P6, P3 and P6.
+        let bytes = followed(tagged.bytes());
+        self.refused(format!("two_{f}_tag_after"), bytes, 10);
+        let bytes = followed(sized.bytes());
+        self.refused(format!("two_{f}_length_after"), bytes, 11);
+
+        let Some((number, faulty)) = fields.with_value_fault(tag) else {
+            return;
+        };
+        let length = faulty.field(tag).content.len();
+        // P2 and P5.
+        let bytes = faulty.with(tag, other_tag).bytes();
+        self.refused(format!("two_{f}_tag_value"), bytes, 10);
+        // P3 and P5.
+        let bytes = faulty.with(tag, other_length).bytes();
+        self.refused(format!("two_{f}_length_value"), bytes, 11);
+        // P4 and P5.
+        let bytes = faulty.cut(tag, HEAD + length - 1);
+        self.refused(format!("two_{f}_cut_value"), bytes, 9);
+        // P5, and the file ends after the field.
+        let bytes = faulty.cut(tag, HEAD + length);
+        self.refused(format!("two_{f}_value_end"), bytes, number);
+        // P5 and P6.
+        let bytes = followed(faulty.bytes());
+        self.refused(format!("two_{f}_value_after"), bytes, number);
     }
 
     /// Two faults in two fields: the earlier field decides, whatever the
@@ -191,35 +204,71 @@ impl Cases {
         let tags = fields.tags();
         for (index, &early) in tags.iter().enumerate() {
             for &late in &tags[index + 1..] {
-                let names = format!("{}_{}", stated_of(early).name, stated_of(late).name);
-                // A value fault before a wrong tag.
-                if let Some((number, faulty)) = fields.with_value_fault(early) {
-                    let bytes = faulty.with(late, other_tag).bytes();
-                    self.refused(format!("value_tag_{names}"), bytes, number);
-                }
-                // A wrong length before a value fault.
-                if let Some((_, faulty)) = fields.with_value_fault(late) {
-                    let bytes = faulty.with(early, other_length).bytes();
-                    self.refused(format!("length_value_{names}"), bytes, 11);
-                }
+                self.early_and_late(fields, early, late);
             }
         }
     }
 
-    /// Some faults at every field of a larger key, and two at once.
-    pub(super) fn larger_key(&mut self, fields: &Fields) {
+    /// Those of the fields with these two tags.
+    pub(super) fn early_and_late(&mut self, fields: &Fields, early: u8, late: u8) {
+        let names = format!("{}_{}", stated_of(early).name, stated_of(late).name);
+        // A value fault before a wrong tag.
+        if let Some((number, faulty)) = fields.with_value_fault(early) {
+            let bytes = faulty.with(late, other_tag).bytes();
+            self.refused(format!("value_tag_{names}"), bytes, number);
+        }
+        // A wrong length before a value fault.
+        if let Some((_, faulty)) = fields.with_value_fault(late) {
+            let bytes = faulty.with(early, other_length).bytes();
+            self.refused(format!("length_value_{names}"), bytes, 11);
+        }
+    }
+
+    /// A fault of the values of one field, which has this number, and a fault of
+    /// another: the earlier field decides.
+    pub(super) fn beside_other_faults(&mut self, name: &str, faulty: &Fields, of: u8, number: u32) {
+        let place = faulty.index(of);
+        for tag in faulty.tags().into_iter().filter(|&tag| tag != of) {
+            let mut faults = vec![
+                ("tag", 10, faulty.with(tag, other_tag)),
+                ("length", 11, faulty.with(tag, other_length)),
+            ];
+            if let Some((other, faulty)) = faulty.with_value_fault(tag) {
+                faults.push(("value", other, faulty));
+            }
+            let early = faulty.index(tag) < place;
+            for (word, other, both) in faults {
+                let name = format!("{name}_{}_{word}", stated_of(tag).name);
+                self.refused(name, both.bytes(), if early { other } else { number });
+            }
+        }
+        // The next field is cut.
+        let next = faulty.tags()[place + 1];
+        for more in 0..=HEAD {
+            let name = format!("{name}_{}_cut_{more}", stated_of(next).name);
+            self.refused(name, faulty.cut(next, more), number);
+        }
+    }
+
+    /// Some faults at every field of a larger key, and two at once. A field that
+    /// may be absent is counted in the proof.
+    pub(super) fn larger_key(&mut self, key: &Sample) {
+        let fields = &Fields::of(key);
         for tag in fields.tags() {
             let f = stated_of(tag).name;
-            let index = fields.index(tag);
             let length = usize::from(fields.field(tag).length);
             let sized = fields.with(tag, other_length);
 
             self.refused(format!("n5_{f}_head"), fields.cut(tag, HEAD - 1), 9);
             let bytes = fields.with(tag, other_tag).bytes();
             self.refused(format!("n5_{f}_tag"), bytes, 10);
-            let number = if tag == fields.last() { 9 } else { 10 };
-            let bytes = fields.edited(|list| drop(list.remove(index)));
-            self.refused(format!("n5_{f}_gone"), bytes, number);
+            let (name, gone) = (format!("n5_{f}_gone"), fields.without(tag));
+            if stated_of(tag).optional {
+                self.judged(name, &gone, key, "rejected");
+            } else {
+                let number = if tag == fields.last() { 9 } else { 10 };
+                self.refused(name, gone.bytes(), number);
+            }
             self.refused(format!("n5_{f}_length"), sized.bytes(), 11);
             let bytes = fields.cut(tag, HEAD + length - 1);
             self.refused(format!("n5_{f}_cut"), bytes, 9);

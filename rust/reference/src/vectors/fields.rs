@@ -16,7 +16,10 @@ pub fn set_word(field: &mut WrittenField, index: usize, word: u16) {
 
 /// Whether the field with this tag holds elements of F or K.
 pub fn has_words(tag: u8) -> bool {
-    matches!(stated_of(tag).kind, Kind::Key | Kind::Elements)
+    matches!(
+        stated_of(tag).kind,
+        Kind::Key | Kind::Target | Kind::Elements
+    )
 }
 
 /// The number of the refusal of an element or a bit that is too large in the
@@ -24,7 +27,7 @@ pub fn has_words(tag: u8) -> bool {
 pub fn number_of_excess(tag: u8) -> Option<u32> {
     match stated_of(tag).kind {
         Kind::Sizes | Kind::Serial => None,
-        Kind::Key => Some(4),
+        Kind::Key | Kind::Target => Some(4),
         Kind::Bits => Some(5),
         Kind::Elements => Some(6),
     }
@@ -101,11 +104,21 @@ impl Fields {
         fields
     }
 
+    /// The fields after a change of the list.
+    pub fn changed(&self, change: impl FnOnce(&mut Vec<WrittenField>)) -> Fields {
+        let mut fields = self.clone();
+        change(&mut fields.0);
+        fields
+    }
+
+    /// The fields without the one with this tag.
+    pub fn without(&self, tag: u8) -> Fields {
+        self.changed(|list| drop(list.remove(index_of(list, tag))))
+    }
+
     /// The bytes after a change of the list.
     pub fn edited(&self, change: impl FnOnce(&mut Vec<WrittenField>)) -> Vec<u8> {
-        let mut fields = self.0.clone();
-        change(&mut fields);
-        join(&fields)
+        self.changed(change).bytes()
     }
 
     /// The fields with a fault of the values of the one with this tag (place

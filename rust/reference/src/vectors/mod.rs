@@ -5,6 +5,7 @@ mod cases;
 mod faults;
 mod fields;
 mod serials;
+mod targets;
 mod text;
 
 pub use cases::{Case, Cases};
@@ -56,9 +57,13 @@ fn generator(n: usize, m: usize) -> Generator {
     Generator::new((1000 * n + m) as u64)
 }
 
-/// A solving sample with a serial of two bytes.
+/// A solving sample without a target and with a serial of two bytes.
 fn solving(n: usize, m: usize, mut generator: Generator) -> Sample {
-    let mut sample = Sample::solving(n, m, &mut generator);
+    short_serial(Sample::without_target(n, m, &mut generator))
+}
+
+/// The sample with a serial of two bytes.
+fn short_serial(mut sample: Sample) -> Sample {
     sample.serial &= 0xffff;
     sample
 }
@@ -66,9 +71,17 @@ fn solving(n: usize, m: usize, mut generator: Generator) -> Sample {
 /// The serials of four bytes: that of a text file, and that of the largest file.
 const LONG_SERIALS: [((usize, usize), u32); 2] = [((3, 1), 2_718_281_828), ((64, 63), u32::MAX)];
 
+/// The sizes of keys with a target: those of text files, and that of the largest
+/// file.
+pub const TARGETS: [(usize, usize); 4] = [(5, 2), (17, 8), (64, 27), (64, 63)];
+
 /// The solving sample of a size.
 fn sample(n: usize, m: usize) -> Sample {
-    let mut sample = solving(n, m, generator(n, m));
+    let mut sample = if TARGETS.contains(&(n, m)) {
+        short_serial(Sample::with_target(n, m, &mut generator(n, m)))
+    } else {
+        solving(n, m, generator(n, m))
+    };
     let long = LONG_SERIALS.iter().find(|(sizes, _)| *sizes == (n, m));
     sample.serial = long.map_or(sample.serial, |&(_, serial)| serial);
     sample

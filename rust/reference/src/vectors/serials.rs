@@ -2,9 +2,8 @@
 //! serial in four bytes that fits two.
 
 use super::cases::Cases;
-use super::faults::{other_length, other_tag};
 use super::fields::{lengthen, Fields};
-use crate::package::{stated_of, tag, HEAD};
+use crate::package::{tag, HEAD};
 use crate::samples::Sample;
 
 /// The serial that needs four bytes, and is the least of them.
@@ -49,7 +48,9 @@ impl Cases {
             let bytes = of(LEAST_LONG).cut(tag::SERIAL, more);
             self.refused(format!("serial_{LEAST_LONG}_cut_{more}"), bytes, 9);
         }
-        self.beside_other_faults(&of(key.serial), key.serial);
+        let long = of(key.serial).with(tag::SERIAL, lengthen);
+        let name = format!("serial_{}_in_4", key.serial);
+        self.beside_other_faults(&name, &long, tag::SERIAL, 19);
     }
 
     /// Serials about the limits of one, two, three and four bytes.
@@ -76,35 +77,6 @@ impl Cases {
                 let name = format!("serial_{serial}_size_{length}");
                 self.refused(name, other.bytes(), 11);
             }
-        }
-    }
-
-    /// A serial in four bytes that fits two, and a fault of another field: the
-    /// earlier field decides.
-    fn beside_other_faults(&mut self, fields: &Fields, serial: u32) {
-        let long = fields.with(tag::SERIAL, lengthen);
-        let place = long.index(tag::SERIAL);
-        for tag in long.tags() {
-            if tag == tag::SERIAL {
-                continue;
-            }
-            let decided = |number| if long.index(tag) < place { number } else { 19 };
-            let mut faults = vec![
-                ("tag", 10, long.with(tag, other_tag)),
-                ("length", 11, long.with(tag, other_length)),
-            ];
-            if let Some((number, faulty)) = long.with_value_fault(tag) {
-                faults.push(("value", number, faulty));
-            }
-            for (word, number, faulty) in faults {
-                let name = format!("serial_{serial}_in_4_{}_{word}", stated_of(tag).name);
-                self.refused(name, faulty.bytes(), decided(number));
-            }
-        }
-        // The next field is cut.
-        for more in 0..=HEAD {
-            let name = format!("serial_{serial}_in_4_t_cut_{more}");
-            self.refused(name, long.cut(tag::T, more), 19);
         }
     }
 }

@@ -82,6 +82,7 @@ fn input_lines(sample: &Sample) -> String {
     let mut text = format!("n {n}\nm {m}\nd {d}\nserial {}\n", sample.serial);
     text += &row_lines("h", &sample.h, n, small_elements);
     text += &format!("x{}\n", small_elements(&sample.x));
+    text += &format!("y{}\n", small_elements(&sample.y));
     text += &format!("positions{}\n", decimal(&sample.positions));
     text += &row_lines("u", &sample.u, d, decimal);
     text += &row_lines("v", &sample.v, COORDINATES * d, large_elements);

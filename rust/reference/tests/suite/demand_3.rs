@@ -6,16 +6,15 @@ use crate::{constraints_of, large, tops, values_of};
 use reference::large_field::K;
 use reference::level::FIRST;
 use reference::samples::{
-    in_order, independent, independent_rows, orthogonal_row, unit_rows, Generator, Sample,
+    elements, in_order, independent, independent_rows, orthogonal_row, unit_rows, Generator, Sample,
 };
 
 /// What the positions are, judged without any polynomial.
 #[derive(Clone, Copy, Debug, PartialEq, Eq)]
 enum Kind {
-    /// The numbers 0 to n - 1, each once, and H times x in that order is zero.
+    /// The numbers 0 to n - 1, each once, and H times x in that order is y.
     Solving,
-    /// The numbers 0 to n - 1, each once, but H times x in that order isn't
-    /// zero.
+    /// The numbers 0 to n - 1, each once, but H times x in that order isn't y.
     OtherOrder,
     /// A position from n to 2^d - 1.
     Spare,
@@ -37,7 +36,7 @@ fn kind(sample: &Sample) -> Kind {
         for (i, &position) in positions.iter().enumerate() {
             sum ^= product_by_doubling::<FIRST>(sample.h[e * n + i], sample.x[position]);
         }
-        if sum != 0 {
+        if sum != sample.y[e] {
             return Kind::OtherOrder;
         }
     }
@@ -93,28 +92,41 @@ fn both_facts(sample: &Sample, counts: &mut Counts) {
 }
 
 /// Keys of one size: solved by one order, by several, by every order, and
-/// random.
+/// random; with a target and without.
 fn keys(n: usize, m: usize, generator: &mut Generator) -> Vec<Sample> {
-    let solved = Sample::solving(n, m, generator);
-    let solved_too = Sample::solving(n, m, generator);
+    let solved = Sample::without_target(n, m, generator);
+    let with_target = Sample::with_target(n, m, generator);
     let mut random = Sample::solving(n, m, generator);
     random.h = generator.matrix(n, m);
     let constant = Sample::solved_by_all(n, m, generator);
 
     // Unit rows, so that each order solves whose first m entries are zero.
-    let mut unit = Sample::solving(n, m, generator);
+    let mut unit = Sample::without_target(n, m, generator);
     unit.h = unit_rows(n, m);
     unit.x[..m].fill(0);
+    // With a target no order solves.
     let mut zero_x = Sample::solving(n, m, generator);
     zero_x.x.fill(0);
+    // The target of one row alone is wrong, and so no order or another solves.
+    let mut other_y = Sample::solving(n, m, generator);
+    other_y.y[generator.below(m)] ^= 1 + generator.below(2047) as u16;
     // Two equal entries of x: two orders solve.
-    let mut equal = Sample::solving(n, m, generator);
+    let mut equal = Sample::without_target(n, m, generator);
     let positions = &equal.positions;
     let (first, second) = (usize::from(positions[0]), usize::from(positions[1]));
     equal.x[first] = equal.x[second];
     let entries = in_order(&equal.x, &equal.positions);
     equal.h = independent_rows(m, || orthogonal_row(&entries, generator));
-    let keys = vec![solved, solved_too, random, constant, unit, zero_x, equal];
+    let keys = vec![
+        solved,
+        with_target,
+        random,
+        constant,
+        unit,
+        zero_x,
+        other_y,
+        equal,
+    ];
     assert!(keys.iter().all(|sample| independent(&sample.h, n)));
     keys
 }
@@ -188,8 +200,8 @@ fn all_lists_for_n_2() {
 fn all_lists_for_n_3() {
     let counts = exhaust(3, 2, 5);
     assert!(counts.solving > 0 && counts.other_order > 0 && counts.repeated > 0);
-    // 64 - 27 lists have a spare code, for 2 values of m, 7 keys and 5 rounds.
-    assert_eq!(counts.spare, 37 * 2 * 7 * 5);
+    // 64 - 27 lists have a spare code, for 2 values of m, 8 keys and 5 rounds.
+    assert_eq!(counts.spare, 37 * 2 * 8 * 5);
 }
 
 #[test]
@@ -202,19 +214,21 @@ fn all_lists_for_n_4() {
 #[test]
 fn all_lists_and_all_mask_bits_for_n_3() {
     let mut generator = Generator::new(7);
-    let mut sample = Sample::solving(3, 1, &mut generator);
-    let mut counts = Counts::default();
-    for list in all_lists(3, 2) {
-        sample.positions = list;
-        for bits in 0..64u8 {
-            sample.u = (0..6).map(|i| (bits >> i) & 1).collect();
-            sample.make_honest();
-            both_facts(&sample, &mut counts);
+    for of in [Sample::without_target, Sample::with_target] {
+        let mut sample = of(3, 1, &mut generator);
+        let mut counts = Counts::default();
+        for list in all_lists(3, 2) {
+            sample.positions = list;
+            for bits in 0..64u8 {
+                sample.u = (0..6).map(|i| (bits >> i) & 1).collect();
+                sample.make_honest();
+                both_facts(&sample, &mut counts);
+            }
         }
+        assert_eq!(counts.total(), 64 * 64);
+        assert!(counts.solving >= 64);
+        assert_eq!(counts.spare, 37 * 64);
     }
-    assert_eq!(counts.total(), 64 * 64);
-    assert!(counts.solving >= 64);
-    assert_eq!(counts.spare, 37 * 64);
 }
 
 /// The sample with its positions changed into another kind, if n allows it.
@@ -232,6 +246,34 @@ fn changed_positions(sample: &Sample, round: usize, generator: &mut Generator) -
         _ => other.positions = vec![generator.below(n) as u8; n],
     }
     other
+}
+
+/// A key with a target is one without where y is zero: top n + e is that of the
+/// other key plus y(e), all other coefficients are the same, and value n + e has
+/// y(e) Δ^d besides.
+#[test]
+fn the_target_is_added_at_the_top() {
+    let mut generator = Generator::new(11);
+    for (n, m) in [(2, 1), (3, 2), (5, 4), (9, 3), (17, 16)] {
+        let sample = Sample::with_target(n, m, &mut generator);
+        let mut old = sample.clone();
+        old.y.fill(0);
+        let ((t, with), (_, without)) = (constraints_of(&sample), constraints_of(&old));
+        let (values, old_values) = (values_of(&sample, &t), values_of(&old, &t));
+        let delta = large(&sample.delta)[0];
+        for j in 0..n + m {
+            let y = match j.checked_sub(n) {
+                Some(e) => large(&elements(&sample.y[e..=e]))[0],
+                None => K::ZERO,
+            };
+            let (below, top) = with[j].split_at(sample.d);
+            assert_eq!(below, &without[j][..sample.d]);
+            assert_eq!(top[0], without[j][sample.d] + y);
+            let mut power = y;
+            (0..sample.d).for_each(|_| power = power * delta);
+            assert_eq!(values[j], old_values[j] + power);
+        }
+    }
 }
 
 #[test]

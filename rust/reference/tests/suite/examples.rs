@@ -130,6 +130,84 @@ fn example_12_positions_0_1_4() {
     assert_eq!(sample.constraints(), Err(Refusal::Position));
 }
 
+/// Key A with y = 5 and the positions 1 0, by hand: x' = 2 1, and H x' = 4 + 1 = 5.
+///
+/// - w = (1 0) and u = (1 0), so t = (0 0). Row 0 is 1, X + 1; row 1 is X + 4, 4.
+/// - Polynomials 0 and 1 are 5. x'(0) = 1 + 2 (X + 1) = 2 X + 3, x'(1) = (X + 4) +
+///   8 = X + 12, and polynomial 2 is 2 (2 X + 3) + (X + 12) + 5 X = 10.
+/// - α = (1, 2, 1), so a = 5 + 10 + 10 = 5.
+/// - Δ = 2 and q = (3, 4). Row 0 is 1, 3; row 1 is 6, 4. The values are 1 + 6 + 2 =
+///   5, 3 + 4 + 2 = 5 and 2 (1 + 6) + (6 + 8) + 5 Δ = 10.
+#[test]
+fn key_a_with_a_target() {
+    let sample = Sample::key_a_with_target();
+    let (t, polynomials) = constraints_of(&sample);
+    assert_eq!(t, [0, 0]);
+    let stated = elements(&[5, 0, 5, 0, 10, 0]);
+    assert_eq!(polynomials.concat(), large(&stated));
+    assert_eq!(sample.proof(), Ok((vec![0, 0], element(5))));
+    assert_eq!(values_of(&sample, &t), large(&elements(&[5, 5, 10])));
+    assert_eq!(verdict_of(&sample, &t, &element(5)), Verdict::Accepted);
+    assert_eq!(verdict_of(&sample, &t, &element(4)), Verdict::Rejected);
+    // The order that solves key A without a target, and this one without y.
+    let other = Sample {
+        positions: vec![0, 1],
+        ..sample.clone()
+    };
+    assert_eq!(tops(&constraints_of(&other).1), [0, 0, 5]);
+    assert_eq!(other.proof(), Err(Refusal::TopCoefficient));
+    let other = Sample {
+        y: vec![0],
+        ..sample
+    };
+    assert_eq!(tops(&constraints_of(&other).1), [0, 0, 5]);
+    assert_eq!(verdict_of(&other, &t, &element(5)), Verdict::Rejected);
+}
+
+/// n = 3 with y = 1 and the positions 1 0 2, by hand: v is (1, 2), (3, 4), (5, 6),
+/// u is zero, and q is v.
+///
+/// - Row 0, digits 0 1: 2 X + 2, X^2 + 3 X + 2, 2.
+/// - Row 1, digits 0 0: X^2 + 7 X + 12, 4 X + 12, 3 X + 12.
+/// - Row 2, digits 1 0: 5 X + 30, 30, X^2 + 3 X + 30.
+///
+/// Columns: 16, 7 X + 16, 16. x'(0) is (X^2 + 3 X + 2) + 2 2, and polynomial 3 is
+/// that plus X^2: 3 X + 6. α = (1, 2, 3, 4): f = 16 + (14 X + 32) + 48 + (12 X + 24)
+/// = 2 X + 24, the mask is 8 X + 7, and a = (31, 10). At Δ = 2 the values are 16,
+/// 30, 16 and 0, and the mask number is 23.
+#[test]
+fn three_with_a_target() {
+    let sample = Sample::three_with_target();
+    let (t, polynomials) = constraints_of(&sample);
+    assert_eq!(t, [0, 1, 0, 0, 1, 0]);
+    let stated = elements(&[16, 0, 0, 16, 7, 0, 16, 0, 0, 6, 3, 0]);
+    assert_eq!(polynomials.concat(), large(&stated));
+    let a = elements(&[31, 10]);
+    assert_eq!(sample.proof(), Ok((t.clone(), a.clone())));
+    assert_eq!(values_of(&sample, &t), large(&elements(&[16, 30, 16, 0])));
+    assert_eq!(sample.masks, element(23));
+    assert_eq!(verdict_of(&sample, &t, &a), Verdict::Accepted);
+    let other = elements(&[31, 11]);
+    assert_eq!(verdict_of(&sample, &t, &other), Verdict::Rejected);
+}
+
+/// The file of key A with y = 5: that of key A with field 04 after 03 and t = 0 0.
+#[test]
+fn file_of_key_a_with_a_target() {
+    let file = Sample::key_a_with_target().check_file().unwrap();
+    let mut stated = key_a_of_the_specification();
+    let t = 5 + 7 + 7 + 5 + 3;
+    stated[t..t + 2].fill(0);
+    stated.splice(19..19, [4, 0, 2, 0, 5]);
+    assert_eq!(file, stated);
+    assert_eq!(perkcheck_line(&file), "serial 7 n 2 m 1 accepted\n");
+    let without = [&file[..19], &file[24..]].concat();
+    assert_eq!(perkcheck_line(&without), "serial 7 n 2 m 1 rejected\n");
+    let mut zero = file;
+    zero[23] = 0;
+    assert_eq!(perkcheck_line(&zero), "refused 14\n");
+}
+
 /// The file of key A as the specification writes it, with the zero bytes of "0..".
 fn key_a_of_the_specification() -> Vec<u8> {
     let text = "01 0002 0201  02 0004 0002 0001  03 0004 0001 0002  05 0002 0007 \
@@ -255,7 +333,7 @@ fn coefficients_of_one_row() {
 #[test]
 fn numbers_of_the_refusals() {
     let numbers = Refusal::ALL.map(Refusal::number);
-    assert_eq!(numbers, [1, 2, 3, 4, 5, 6, 7, 8, 9, 10, 11, 12, 19]);
+    assert_eq!(numbers, [1, 2, 3, 4, 5, 6, 7, 8, 9, 10, 11, 12, 14, 19]);
 }
 
 /// The lines of `examples_run` that the specification states.
@@ -286,6 +364,32 @@ fn text_of_examples_run() {
         ("key A, positions 1 0, prove:", " refused 8"),
         ("n = 3, positions 0 1 4, constraints:", " refused 7"),
         ("n = 3, positions 0 1 4, prove:", " refused 7"),
+        (
+            "key A, y = 5, positions 1 0, constraints: done, t 0 0",
+            "polynomials 5 0 5 0 10 0, tops 0 0 0",
+        ),
+        ("key A, y = 5, positions 1 0, prove: done, t 0 0", "a 5"),
+        ("key A, y = 5, values: done", " 5 5 10"),
+        ("key A, y = 5, a = 5, verify:", " accepted"),
+        ("key A, y = 5, a = 4, verify:", " rejected"),
+        (
+            "key A, y = 5, positions 0 1, constraints: done",
+            "tops 0 0 5",
+        ),
+        ("key A, y = 5, positions 0 1, prove:", " refused 8"),
+        (
+            "n = 3, y = 1, positions 1 0 2, constraints: done, t 0 1 0 0 1 0",
+            "polynomials 16 0 0 16 7 0 16 0 0 6 3 0, tops 0 0 0 0",
+        ),
+        (
+            "n = 3, y = 1, positions 1 0 2, prove: done, t 0 1 0 0 1 0",
+            "a 31 10",
+        ),
+        (
+            "n = 3, y = 1, positions 0 1 2, constraints: done",
+            "tops 0 0 0 1",
+        ),
+        ("n = 3, y = 1, positions 0 1 2, prove:", " refused 8"),
         ("n = 1, m = 1: constraints refused 1", "verify refused 1"),
         ("n = 65, m = 1: constraints refused 1", "verify refused 1"),
         ("n = 2, m = 1: constraints done", "verify accepted"),

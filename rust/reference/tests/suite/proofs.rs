@@ -134,7 +134,7 @@ fn the_equation_alone_decides() {
 }
 
 /// The slices that are changed below.
-const SLICES: [&str; 8] = ["h", "x", "t", "q", "delta", "masks", "alpha", "a"];
+const SLICES: [&str; 9] = ["h", "x", "y", "t", "q", "delta", "masks", "alpha", "a"];
 
 /// The material with another bit or another word in a slice that is not empty,
 /// its rows of H still independent.
@@ -204,7 +204,7 @@ fn tops_count_whatever_the_weights_are() {
 
 #[test]
 fn a_wrong_top_in_each_polynomial_is_found() {
-    // One row of H at a time is not orthogonal; all weights are zero.
+    // One row of H at a time has another product; all weights are zero.
     let mut generator = Generator::new(26);
     for e in 0..4 {
         let mut sample = Sample::solving(6, 4, &mut generator);
@@ -215,5 +215,11 @@ fn a_wrong_top_in_each_polynomial_is_found() {
         sample.h[6 * e + i] ^= 1;
         assert!(independent(&sample.h, 6));
         assert_eq!(sample.proof(), Err(Refusal::TopCoefficient));
+        // Another target of this row puts it right, and of no other row.
+        let y = sample.y.clone();
+        sample.set_target();
+        assert!(sample.proof().is_ok());
+        let differing: Vec<usize> = (0..4).filter(|&k| y[k] != sample.y[k]).collect();
+        assert_eq!(differing, [e]);
     }
 }

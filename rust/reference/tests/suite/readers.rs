@@ -28,6 +28,7 @@ fn walk(bytes: &[u8], check_file: bool) -> Plain {
             tag::SIZES | tag::SERIAL => 2,
             tag::H => 2 * m * n,
             tag::X => 2 * n,
+            tag::Y => 2 * m,
             tag::T => n * d,
             tag::A => 24 * d,
             tag::Q => 24 * n * d,
@@ -56,8 +57,9 @@ fn walk(bytes: &[u8], check_file: bool) -> Plain {
                 }
                 d = (1..7).find(|&d| 1 << d >= n).expect("n is at most 64");
             }
-            tag::H | tag::X if high => return Err((4, 5, stated)),
-            tag::H | tag::X => {}
+            tag::H | tag::X | tag::Y if high => return Err((4, 5, stated)),
+            tag::Y if content.iter().all(|&byte| byte == 0) => return Err((14, 5, stated)),
+            tag::H | tag::X | tag::Y => {}
             tag::SERIAL => match *content {
                 [0, 0, _, _] => return Err((19, 5, stated)),
                 [a, b, c, d] => serial = u32::from_be_bytes([a, b, c, d]),
@@ -70,6 +72,9 @@ fn walk(bytes: &[u8], check_file: bool) -> Plain {
         }
         at += 3 + length;
         next = after(stated, check_file);
+        if stated == tag::X && bytes.get(at) == Some(&tag::Y) {
+            next = Some(tag::Y);
+        }
     }
     if at < bytes.len() {
         return Err((12, 6, 0));
@@ -77,12 +82,12 @@ fn walk(bytes: &[u8], check_file: bool) -> Plain {
     Ok((n, m, serial))
 }
 
-/// The tag after another.
+/// The tag that must come after another.
 fn after(stated: u8, check_file: bool) -> Option<u8> {
     match stated {
         tag::SIZES => Some(tag::H),
         tag::H => Some(tag::X),
-        tag::X => Some(tag::SERIAL),
+        tag::X | tag::Y => Some(tag::SERIAL),
         tag::SERIAL => Some(tag::T),
         tag::T => Some(tag::A),
         tag::A => check_file.then_some(tag::Q),
@@ -103,10 +108,10 @@ fn plain(answer: Result<Contents, Refused>) -> Plain {
 }
 
 /// Samples of some sizes with small files, some with a serial of two bytes and
-/// some with one of four.
+/// some with one of four, with a target and without.
 fn samples() -> Vec<Sample> {
     let mut generator = Generator::new(40);
-    let mut samples = vec![Sample::key_a()];
+    let mut samples = vec![Sample::key_a(), Sample::key_a_with_target()];
     for (n, m, serial) in [
         (2, 1, 40_000),
         (3, 2, 65_536),
@@ -114,8 +119,10 @@ fn samples() -> Vec<Sample> {
         (5, 2, 0),
         (9, 4, 305_419_896),
     ] {
-        let sample = Sample::solving(n, m, &mut generator);
-        samples.push(Sample { serial, ..sample });
+        for of in [Sample::without_target, Sample::with_target] {
+            let sample = of(n, m, &mut generator);
+            samples.push(Sample { serial, ..sample });
+        }
     }
     samples
 }
@@ -123,6 +130,13 @@ fn samples() -> Vec<Sample> {
 /// Sets the content of the field of the serial, and its length.
 fn set_serial(fields: &mut [WrittenField], content: &[u8]) {
     *field_of(fields, tag::SERIAL) = WrittenField::new(tag::SERIAL, content.to_vec());
+}
+
+/// Sets the content of the field y, and its length; it stands after x.
+fn set_y(fields: &mut Vec<WrittenField>, content: Vec<u8>) {
+    fields.retain(|field| field.tag != tag::Y);
+    let place = index_of(fields, tag::X) + 1;
+    fields.insert(place, WrittenField::new(tag::Y, content));
 }
 
 /// Serials with their only form.
@@ -182,6 +196,11 @@ fn both_readers_agree_with_a_second_reader() {
             match generator.below(16) {
                 0 => set_serial(&mut part, &[0, 0, generator.below(256) as u8, 9]),
                 1 => set_serial(&mut part, &serial_bytes(generator.serial())),
+                2 => set_y(&mut part, vec![0; 2 * sample.m]),
+                3 => {
+                    let y = (0..2 * sample.m).map(|_| generator.below(2) as u8);
+                    set_y(&mut part, y.collect());
+                }
                 _ => {}
             }
             let starts: Vec<usize> = part.iter().map(|f| head_start(&part, f.tag)).collect();
@@ -202,7 +221,7 @@ fn both_readers_agree_with_a_second_reader() {
     }
     for answers in [package_answers, check_answers] {
         let numbers: BTreeSet<u32> = answers.keys().copied().collect();
-        let stated = BTreeSet::from([0, 1, 2, 4, 5, 6, 9, 10, 11, 12, 19]);
+        let stated = BTreeSet::from([0, 1, 2, 4, 5, 6, 9, 10, 11, 12, 14, 19]);
         assert_eq!(numbers, stated, "{answers:?}");
         assert!(answers.values().all(|&count| count >= 30), "{answers:?}");
     }
@@ -298,6 +317,70 @@ fn only_two_and_four_are_lengths_of_a_serial() {
     }
 }
 
+/// y: present where the byte after x is 04, and not all zero then.
+#[test]
+fn a_target_is_there_or_not() {
+    let sample = Sample::with_target(5, 3, &mut Generator::new(44));
+    let fields = sample.fields().expect("the sample is solved");
+    let read = |content: &[u8]| {
+        let mut fields = fields.clone();
+        set_y(&mut fields, content.to_vec());
+        let package = join(package_part(&fields));
+        let answer = plain(judge_package(&package));
+        assert_eq!(answer, plain(judge_check_file(&join(&fields))));
+        if answer.is_ok() {
+            assert_eq!(field(&package, tag::Y), content);
+        }
+        answer.map(|_| ())
+    };
+    // One bit of six bytes.
+    for bit in 0..48 {
+        let mut content = [0; 6];
+        content[bit / 8] = 1 << (bit % 8);
+        let above = bit / 8 % 2 == 0 && bit % 8 > 2;
+        let stated = if above { Err((4, 5, tag::Y)) } else { Ok(()) };
+        assert_eq!(read(&content), stated, "bit {bit}");
+    }
+    assert_eq!(read(&[0; 6]), Err((14, 5, tag::Y)));
+    // The lengths 0, 2n and others.
+    for length in (0..20).filter(|&length| length != 6) {
+        assert_eq!(read(&vec![0; length]), Err((11, 3, tag::Y)), "{length}");
+        assert_eq!(read(&vec![1; length]), Err((11, 3, tag::Y)), "{length}");
+    }
+
+    let [package, whole] = [package_part(&fields), &fields].map(join);
+    let start = head_start(&fields, tag::Y);
+    for length in start + 1..start + 9 {
+        let stated = if length < start + 3 { 1 } else { 4 };
+        for part in [&package[..length], &whole[..length]] {
+            assert_eq!(plain(judge_package(part)), Err((9, stated, tag::Y)));
+            assert_eq!(plain(judge_check_file(part)), Err((9, stated, tag::Y)));
+        }
+    }
+    for length in [start, start + 9] {
+        let answer = judge_package(&package[..length]);
+        assert_eq!(plain(answer), Err((9, 1, tag::SERIAL)));
+    }
+
+    // In every other place, alone and besides.
+    let y = fields[index_of(&fields, tag::Y)].clone();
+    let mut rest = fields.clone();
+    rest.retain(|field| field.tag != tag::Y);
+    assert_eq!(field(&join(package_part(&rest)), tag::Y), []);
+    for list in [&rest, &fields] {
+        let after_x = index_of(list, tag::X) + 1;
+        for place in (0..=list.len()).filter(|&place| place != after_x) {
+            let mut other = list.clone();
+            other.insert(place, y.clone());
+            let number = if place < list.len() { 10 } else { 12 };
+            let answer = judge_check_file(&join(&other)).map_err(|refused| refused.refusal);
+            assert_eq!(answer.map_err(Refusal::number), Err(number), "{place}");
+        }
+    }
+    assert!(perkcheck_line(&join(&fields)).ends_with(" accepted\n"));
+    assert!(perkcheck_line(&join(&rest)).ends_with(" rejected\n"));
+}
+
 #[test]
 fn fields_of_packages() {
     for sample in samples() {
@@ -309,7 +392,7 @@ fn fields_of_packages() {
             let range = field_range(&package, tag);
             let part = field(&package, tag);
             assert!(std::ptr::eq(part, &package[range.clone()]));
-            if PACKAGE_TAGS.contains(&tag) {
+            if PACKAGE_TAGS.contains(&tag) && (tag != tag::Y || sample.has_target()) {
                 // The parts follow one another, with the heads between them.
                 assert_eq!(range.start, end + 3);
                 assert_eq!(package[end], tag);
@@ -320,7 +403,8 @@ fn fields_of_packages() {
                 assert_eq!(range, 0..0);
             }
         }
-        assert_eq!((found, end), (PACKAGE_TAGS.len(), package.len()));
+        let absent = usize::from(!sample.has_target());
+        assert_eq!((found, end), (PACKAGE_TAGS.len() - absent, package.len()));
     }
 }
 
@@ -350,11 +434,13 @@ fn fields_of_check_files() {
     for sample in samples() {
         let fields = sample.fields().expect("the sample is solved");
         let file = join(&fields);
-        assert!(fields.iter().map(|field| field.tag).eq(CHECK_FILE_TAGS));
+        let tags: Vec<u8> = fields.iter().map(|field| field.tag).collect();
+        let written = |tag: &u8| *tag != tag::Y || sample.has_target();
+        assert!(CHECK_FILE_TAGS.into_iter().filter(written).eq(tags.clone()));
         for written in &fields {
             assert_eq!(check_file_field(&file, written.tag), written.content);
         }
-        let absent = (0..=255).filter(|tag| !CHECK_FILE_TAGS.contains(tag));
+        let absent = (0..=255).filter(|tag| !tags.contains(tag));
         for tag in absent {
             assert_eq!(check_file_field(&file, tag), []);
         }
@@ -367,9 +453,19 @@ fn fields_of_check_files() {
 
 #[test]
 fn the_largest_file() {
-    let mut sample = Sample::solving(64, 63, &mut Generator::new(43));
-    for (serial, package, whole) in [(65_535, 8_742, 21_162), (u32::MAX, 8_744, 21_164)] {
-        sample.serial = serial;
+    let mut generator = Generator::new(43);
+    let without = Sample::without_target(64, 63, &mut generator);
+    let with = Sample::with_target(64, 63, &mut generator);
+    for (sample, serial, package, whole) in [
+        (&without, 65_535, 8_742, 21_162),
+        (&without, u32::MAX, 8_744, 21_164),
+        (&with, 65_535, 8_871, 21_291),
+        (&with, u32::MAX, 8_873, 21_293),
+    ] {
+        let sample = Sample {
+            serial,
+            ..sample.clone()
+        };
         let fields = sample.fields().expect("the sample is solved");
         assert_eq!(join(package_part(&fields)).len(), package);
         let file = join(&fields);
@@ -405,11 +501,11 @@ fn the_cases_have_every_answer() {
         };
         *answers.entry(answer).or_default() += 1;
     }
-    for answer in ["1", "2", "4", "5", "6", "9", "10", "11", "12", "19"] {
+    for answer in ["1", "2", "4", "5", "6", "9", "10", "11", "12", "14", "19"] {
         assert!(answers[answer] >= 5, "{answer}: {answers:?}");
     }
     assert!(answers["accepted"] >= 5 && answers["rejected"] >= 5);
-    assert_eq!(answers.len(), 12, "{answers:?}");
+    assert_eq!(answers.len(), 13, "{answers:?}");
     let cuts = cases
         .list()
         .iter()
@@ -423,6 +519,6 @@ fn the_cases_have_every_answer() {
         .expect("a case");
     assert_eq!(
         (&longest.name[..], longest.bytes.len()),
-        ("largest", 21_164)
+        ("largest", 21_293)
     );
 }

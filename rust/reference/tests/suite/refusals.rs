@@ -88,7 +88,7 @@ struct Entry {
 }
 
 /// The slices of the key.
-const KEY: [&str; 2] = ["h", "x"];
+const KEY: [&str; 3] = ["h", "x", "y"];
 
 const ENTRIES: [Entry; 4] = [
     Entry {
@@ -196,7 +196,7 @@ fn length_faults(name: &'static str, length: usize) -> Vec<Fault> {
 /// Elements of a slice that are too large, at its first and its last place.
 fn value_faults(name: &'static str, length: usize, d: usize) -> Vec<Fault> {
     let (number, values) = match name {
-        "h" | "x" => (4, [2048, 65_535]),
+        _ if KEY.contains(&name) => (4, [2048, 65_535]),
         "u" | "t" => (5, [2, 255]),
         "positions" => (7, [1 << d, 255]),
         _ => (6, [2048, 65_535]),
@@ -215,8 +215,8 @@ fn value_faults(name: &'static str, length: usize, d: usize) -> Vec<Fault> {
     list
 }
 
-/// Positions and rows of H that are no solution.
-fn top_faults() -> [Fault; 2] {
+/// Positions, rows of H and targets that are no solution.
+fn top_faults() -> [Fault; 3] {
     [
         Fault::new(8, "a position is repeated".to_string(), |call| {
             let positions = &mut call.inputs.sample.positions;
@@ -226,6 +226,10 @@ fn top_faults() -> [Fault; 2] {
             let Sample { n, h, .. } = &mut call.inputs.sample;
             h[0] ^= 1;
             assert!(independent(h, *n));
+        }),
+        Fault::new(8, "an element of y is wrong".to_string(), |call| {
+            let Sample { y, .. } = &mut call.inputs.sample;
+            *y.last_mut().expect("m is above 0") ^= 1;
         }),
     ]
 }

@@ -5,7 +5,7 @@ use crate::large;
 use reference::large_field::COORDINATES;
 use reference::package::{tag, words, CHECK_FILE_TAGS};
 use reference::samples::{honest_masks, honest_q, independent, Sample};
-use reference::vectors::{all, text_name, Cases, SIZES};
+use reference::vectors::{all, text_name, Cases, SIZES, TARGETS};
 use reference::{judge_check_file, perkcheck_line};
 use std::collections::BTreeMap;
 use std::fs;
@@ -125,6 +125,7 @@ impl Text {
             d: self.number("d"),
             h: Text::words(&self.rows("h")),
             x: Text::words(&self.lines("x")[0]),
+            y: Text::words(&self.lines("y")[0]),
             positions: Text::bytes(&self.lines("positions")[0]),
             u: Text::bytes(&self.rows("u")),
             v: Text::words(&self.rows("v")),
@@ -160,12 +161,15 @@ fn changed(file: &[u8], change: &[String]) -> Vec<u8> {
 
 #[test]
 fn the_text_files_hold_the_answers() {
+    let mut targets = 0;
     for (n, m) in SIZES {
         let text = Text::of(n, m);
         let sample = text.sample();
         assert_eq!((sample.n, sample.m), (n, m));
         // One of the files has a serial of four bytes.
         assert_eq!(sample.serial > 65_535, (n, m) == (3, 1));
+        assert_eq!(sample.has_target(), TARGETS.contains(&(n, m)));
+        targets += usize::from(sample.has_target());
         assert_eq!(sample.u.len(), n * sample.d);
         assert_eq!(sample.masks.len(), COORDINATES * (sample.d - 1));
         let q = honest_q(&sample.u, &sample.v, &sample.delta);
@@ -186,9 +190,9 @@ fn the_text_files_hold_the_answers() {
         assert_eq!(perkcheck_line(&tampered), line);
         assert!(line.ends_with(" rejected\n"));
 
-        // Every field but the sizes and an empty one.
+        // Every field but the sizes, an empty one and one that is absent.
         let changes = text.lines("change");
-        let empty = usize::from(sample.masks.is_empty());
+        let empty = usize::from(sample.masks.is_empty()) + usize::from(!sample.has_target());
         assert_eq!(changes.len(), CHECK_FILE_TAGS.len() - 1 - empty);
         for change in changes {
             let line = change[3..].join(" ") + "\n";
@@ -207,6 +211,7 @@ fn the_text_files_hold_the_answers() {
         );
         assert_eq!(number, 8);
     }
+    assert_eq!(targets, 3);
 }
 
 /// The content of the field with this tag, found by the heads before it.
@@ -225,7 +230,7 @@ fn content(bytes: &[u8], tag: u8) -> Option<&[u8]> {
 /// Whether no row of H of a file depends on the others; none when the file is
 /// refused before its key is read.
 fn independent_key(file: &[u8]) -> Option<bool> {
-    let of_key = [tag::SIZES, tag::H, tag::X].map(Some);
+    let of_key = [tag::SIZES, tag::H, tag::X, tag::Y].map(Some);
     if judge_check_file(file).is_err_and(|refused| of_key.contains(&refused.tag)) {
         return None;
     }

@@ -89,8 +89,8 @@ returns c =
     record {
       same = r .ensures .same ∙ dst-length (c .before .before .before .before .before .before .before .before .before .before .before .before .before .before .before .before .before .before);
       words = r .ensures .words;
-      holds = λ e l. r .ensures .holds .low e l ∙ ap (λ y. k .add y (sum k (s .args .n) (λ i. sum k (s .args .n) (λ j. k .mul (leaf k weights x (el (L s) (b .last .0) i) j) (z k (s .args .d) (digits i) (offsets i) j e))))) (cleared-el (L s) (length (s .args .dst .now)) e (o .ensures) (fits-le (L s) (e + 1) (s .args .d) (omega arith) refl (s .pre .1 .3)))
-          ∙ zero-add k (sum k (s .args .n) (λ i. sum k (s .args .n) (λ j. k .mul (leaf k weights x (el (L s) (b .last .0) i) j) (z k (s .args .d) (digits i) (offsets i) j e)))) ∙ weighted-polynomials k (s .args .n) (s .args .m) (s .args .d) h x digits offsets weights (el (L s) (b .last .0)) e l (b .ensures .holds);
+      holds = λ y e l. r .ensures .holds .low e l ∙ ap (λ a. k .add a (sum k (s .args .n) (λ i. sum k (s .args .n) (λ j. k .mul (leaf k weights x (el (L s) (b .last .0) i) j) (z k (s .args .d) (digits i) (offsets i) j e))))) (cleared-el (L s) (length (s .args .dst .now)) e (o .ensures) (fits-le (L s) (e + 1) (s .args .d) (omega arith) refl (s .pre .1 .3)))
+          ∙ zero-add k (sum k (s .args .n) (λ i. sum k (s .args .n) (λ j. k .mul (leaf k weights x (el (L s) (b .last .0) i) j) (z k (s .args .d) (digits i) (offsets i) j e)))) ∙ weighted-polynomials k (s .args .n) (s .args .m) (s .args .d) h x y digits offsets weights (el (L s) (b .last .0)) e l (b .ensures .holds);
     }
 
 pub weighted-spec : {M : Type 1} → statement M

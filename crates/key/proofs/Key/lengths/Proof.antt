@@ -101,7 +101,7 @@ mul-t18 c = record { fits = omega (arith, small (known c) .proof) }
 returns : tie.Need-returns
 returns c =
     let k = c .before .before .args .self in
-    ap₂ (λ (d w : ℕ). record { matrix = k .m * k .n; vector = k .n; positions = k .n; bits = k .n * d; elements = w * (k .n * d); polynomials = w * ((k .n + k .m) * (d + 1)); values = w * (k .n + k .m); masks = w * (d - 1); proof = w * d; one = w }) (c .before .degree .ensures) (ap (λ (l : Level). l .coordinates) (c .of .ensures))
+    ap₂ (λ (d w : ℕ). record { matrix = k .m * k .n; vector = k .n; target = k .m; positions = k .n; bits = k .n * d; elements = w * (k .n * d); polynomials = w * ((k .n + k .m) * (d + 1)); values = w * (k .n + k .m); masks = w * (d - 1); proof = w * d; one = w }) (c .before .degree .ensures) (ap (λ (l : Level). l .coordinates) (c .of .ensures))
 
 pub lengths-spec : {M : Type 1} → statement M
 lengths-spec =

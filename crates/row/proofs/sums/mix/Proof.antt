@@ -18,24 +18,24 @@ use Rattle.row.proofs.sums.mix.Statement.{statement}
 use Rattle.row.proofs.sums.mix.Tie as tie
 
 abbrev Inv-loop : tie.InvT-loop
-Inv-loop src k s x n level parts₀ at₀ j₀ parts at j =
-    (j ≤ n) × (at ≡ s * j) × Combines (levelAt level) parts (sum (K (levelAt level)) j (λ i. K (levelAt level) .mul (smallOf (levelAt level) x i) (el (levelAt level) src (s * i + k))))
+Inv-loop src a s k x n level parts₀ at₀ j₀ parts at j =
+    (j ≤ n) × (at ≡ a + s * j) × Combines (levelAt level) parts (sum (K (levelAt level)) j (λ i. K (levelAt level) .mul (smallOf (levelAt level) x i) (el (levelAt level) src (a + s * i + k))))
 
 abbrev μ-loop : tie.MeasureT-loop
-μ-loop src k s x n level parts₀ at₀ j₀ parts at j = n - j
+μ-loop src a s k x n level parts₀ at₀ j₀ parts at j = n - j
 
 abbrev L : tie.Start Inv-loop μ-loop → Level
 L s = levelAt (s .args .level)
 
 abbrev terms : (s : tie.Start Inv-loop μ-loop) → ℕ → K (L s) .Carrier
-terms s i = K (L s) .mul (smallOf (L s) (s .args .x .now) i) (el (L s) (s .args .src .now) (s .args .s * i + s .args .k))
+terms s i = K (L s) .mul (smallOf (L s) (s .args .x .now) i) (el (L s) (s .args .src .now) (s .args .a + s .args .s * i + s .args .k))
 
 loop-holds : tie.Need-loop-holds Inv-loop μ-loop
 loop-holds c =
     let s = c .before .before in
-    (omega arith, sym (mul-zero (s .args .s)), subst (Combines (L s) (replicate 72 0)) (sym (sum-none (K (L s)) (terms s))) (combines-none (s .args .level)))
+    (omega arith, omega (arith, mul-zero (s .args .s)), subst (Combines (L s) (replicate 72 0)) (sym (sum-none (K (L s)) (terms s))) (combines-none (s .args .level)))
 
-inside : (c : tie.In-loop Inv-loop μ-loop) → c .before .loop .at + c .before .before .before .before .args .s ≤ c .before .before .before .before .args .s * c .before .before .before .before .args .n
+inside : (c : tie.In-loop Inv-loop μ-loop) → c .before .loop .at + c .before .before .before .before .args .s ≤ c .before .before .before .before .args .a + c .before .before .before .before .args .s * c .before .before .before .before .args .n
 inside c = omega (arith, c .before .loop .inv .1, row-le (c .before .before .before .before .args .s) (c .before .loop .j) (c .before .before .before .before .args .n) (c .loop-test .taken))
 
 add-get : tie.Need-add-get Inv-loop μ-loop
@@ -44,7 +44,7 @@ add-get c = omega (arith, inside c, c .before .before .before .before .pre .3, c
 get-requires : tie.Need-get-requires Inv-loop μ-loop
 get-requires c κs =
     let s = c .before .before .before .before in
-    (s .pre .0, fits-le (L s) (c .before .loop .at + s .args .k + 1) (s .args .s * s .args .n) (omega (arith, inside c, s .pre .3)) refl (s .pre .4))
+    (s .pre .0, fits-le (L s) (c .before .loop .at + s .args .k + 1) (s .args .a + s .args .s * s .args .n) (omega (arith, inside c, s .pre .3)) refl (s .pre .4))
 
 mul-add : tie.Need-mul-add Inv-loop μ-loop
 mul-add c = search needs
@@ -69,7 +69,7 @@ loop-again c =
     let s = c .before .before .before .before .before .before .before .before in
     let l = c .before .before .before .before .before .loop in
     let k = K (L s) in
-    let x = el (L s) (s .args .src .now) (s .args .s * l .j + s .args .k) in
+    let x = el (L s) (s .args .src .now) (s .args .a + s .args .s * l .j + s .args .k) in
     let read = subst (λ i. Holds (L s) (c .before .before .before .get .result .words) (el (L s) (s .args .src .now) (i + s .args .k))) (l .inv .1) (c .before .before .before .get .ensures) in (
       omega (arith, c .before .before .before .before .loop-test .taken),
       omega (arith, l .inv .1, row-next (s .args .s) (l .j)),

@@ -1,10 +1,13 @@
 use mathlib.Core.Path.{subst, _≡_, refl, _∙_}
 use Prim.Native.Nat.{ℕ, _+_, _-_, _*_, _≤_}
+use native.Mathlib.Nat.{zero-add}
 use native.Mathlib.Omega.{arith}
 use lib.ListN.{length}
+use Rattle.field.specs.Packed.{Holds}
 use Rattle.field.specs.Level.{levelAt, K}
 use Rattle.field.specs.declared.Level.{Level}
 use Rattle.row.specs.Lent.{smallOf, entryOf}
+use Rattle.row.specs.Polynomial.{sum}
 use Rattle.row.specs.Step.{AddedDown}
 use Rattle.row.specs.Elements.{el, Words}
 use Rattle.row.proofs.SumLaws.{mixed, Checked, checked-none, checked-more, checked-all}
@@ -42,10 +45,17 @@ loop-holds c =
     let s = c .before .before .before .before .before .before .before .before in
     (omega arith, refl, c .before .before .add .ensures .words, checked-none (K (L s)) (s .args .n) (s .args .m) (s .args .s) (source s) (smallOf (L s) (s .args .x .now)) (entries s) (el (L s) (c .before .before .add .last .0)))
 
+-- the sum over the columns, from element 0 on
+sum-mixed : (c : tie.After-mix Inv-loop μ-loop) → let s = c .before .before .before .before .before .before .before .before .before .before .before in
+    Holds (L s) (c .mix .result .words) (mixed (K (L s)) (s .args .n) (s .args .m) (s .args .s) (source s) (smallOf (L s) (s .args .x .now)) (entries s) (c .before .before .loop .k))
+sum-mixed c =
+    let s = c .before .before .before .before .before .before .before .before .before .before .before in
+    subst (λ f. Holds (L s) (c .mix .result .words) (sum (K (L s)) (s .args .n) f)) (λ t j. K (L s) .mul (smallOf (L s) (s .args .x .now) j) (source s (zero-add (s .args .s * j) t + c .before .before .loop .k))) (c .mix .ensures)
+
 mix-requires : tie.Need-mix-requires Inv-loop μ-loop
 mix-requires c κs =
     let s = c .before .before .before .before .before .before .before .before .before .before in
-    (s .pre .1, s .pre .2 .x-within, omega (arith, s .pre .2 .x-length), c .loop-test .taken, s .pre .5)
+    (s .pre .1, s .pre .2 .x-within, omega (arith, s .pre .2 .x-length), c .loop-test .taken, fits-le (L s) (0 + s .args .s * s .args .n) (s .args .s * s .args .n) (omega arith) refl (s .pre .5))
 
 spread-requires : tie.Need-spread-requires Inv-loop μ-loop
 spread-requires c κs =
@@ -53,7 +63,7 @@ spread-requires c κs =
     let l = c .before .before .before .loop in
     let k = s .pre .2 in (
       l .inv .2,
-      holds-held (L s) (c .before .mix .result .words) (mixed (K (L s)) (s .args .n) (s .args .m) (s .args .s) (source s) (smallOf (L s) (s .args .x .now)) (entries s) (l .k)) (c .before .mix .ensures),
+      holds-held (L s) (c .before .mix .result .words) (mixed (K (L s)) (s .args .n) (s .args .m) (s .args .s) (source s) (smallOf (L s) (s .args .x .now)) (entries s) (l .k)) (sum-mixed (c .before)),
       k .h-within,
       omega (arith, k .h-length),
       s .pre .3,
@@ -79,7 +89,7 @@ loop-again c =
       r .ensures .same ∙ l .inv .1,
       r .ensures .words,
       checked-more k (s .args .n) (s .args .m) (s .args .s) (source s) x (entries s) (el (L s) (c .before .before .before .before .before .before .before .before .before .add .last .0)) (el (L s) (l .dst)) (el (L s) (r .last .0)) (l .k) (c .before .before .before .before .before .loop-test .taken) (l .inv .3)
-          (subst (λ v. AddedDown k (el (L s) (l .dst)) (el (L s) (r .last .0)) (s .args .s * s .args .n) (s .args .s) (l .k) (λ e. k .mul (entries s e) v) (s .args .m)) (holds-value (L s) (c .before .before .before .before .mix .result .words) y (c .before .before .before .before .mix .ensures)) (r .ensures .holds)),
+          (subst (λ v. AddedDown k (el (L s) (l .dst)) (el (L s) (r .last .0)) (s .args .s * s .args .n) (s .args .s) (l .k) (λ e. k .mul (entries s e) v) (s .args .m)) (holds-value (L s) (c .before .before .before .before .mix .result .words) y (sum-mixed (c .before .before .before .before))) (r .ensures .holds)),
     )
 
 same-length : tie.Need-same-length Inv-loop μ-loop

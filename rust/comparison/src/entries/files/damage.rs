@@ -3,8 +3,8 @@
 
 use super::faults::{any_of, following, other_length, other_tag, spoil_values};
 use super::fields::{
-    any_serial, dependent_rows, elements, holds, serial_field, set_word, starts, value_refusals,
-    Holds,
+    any_serial, any_target, dependent_rows, elements, holds, serial_field, set_target, set_word,
+    starts, value_refusals, zero_target, Holds,
 };
 use super::Reader;
 use reference::package::{join, tag, WrittenField, SERIAL_LENGTHS};
@@ -12,7 +12,7 @@ use reference::samples::Generator;
 use reference::small_field::F;
 
 /// Changes of whole fields.
-const FIELD_CHANGES: usize = 10;
+const FIELD_CHANGES: usize = 12;
 
 /// Changes whole fields.
 fn change_fields(fields: &mut Vec<WrittenField>, generator: &mut Generator) {
@@ -30,7 +30,18 @@ fn change_fields(fields: &mut Vec<WrittenField>, generator: &mut Generator) {
         6 if spoilable => drop(spoil_values(field, generator)),
         7 => field.length = other_length(field, generator),
         8 => field.length = any_of(&SERIAL_LENGTHS, generator) as u16,
+        9 => field.tag = any_of(&[tag::Y, tag::SERIAL], generator),
+        10 => put_target(fields, generator),
         _ => harmless(fields, index, generator),
+    }
+}
+
+/// Puts any y after x, of zeros too, where the list has x and the sizes.
+fn put_target(fields: &mut Vec<WrittenField>, generator: &mut Generator) {
+    let there = |tag| fields.iter().any(|field| field.tag == tag);
+    if let (true, Some([_, m])) = (there(tag::X), fields.first().map(|f| &f.content[..])) {
+        let y = any_target(usize::from(*m), generator);
+        set_target(fields, &y);
     }
 }
 
@@ -38,7 +49,7 @@ fn change_fields(fields: &mut Vec<WrittenField>, generator: &mut Generator) {
 const TRIES: usize = 20;
 
 /// Another value that no refusal applies to, in a field after the sizes. When
-/// rows of H depend on each other afterwards, another is tried.
+/// rows of H depend on each other afterwards, or y is all zero, another is tried.
 pub fn harmless(fields: &mut [WrittenField], index: usize, generator: &mut Generator) {
     let count = elements(&fields[index]);
     if count == 0 {
@@ -56,7 +67,8 @@ pub fn harmless(fields: &mut [WrittenField], index: usize, generator: &mut Gener
             }
             Some(Holds::Sizes) | None => return,
         }
-        if field.tag != tag::H || !dependent_rows(fields) {
+        let refused = zero_target(field);
+        if !refused && (field.tag != tag::H || !dependent_rows(fields)) {
             return;
         }
         fields[index].content.clone_from(&before);

@@ -1,15 +1,16 @@
 //! Faults of one field, at one place, whose answers are known.
 
 use super::fields::{
-    self, elements, holds, may_have_length, serial_in_four, set_word, starts, value_refusals,
-    Holds, HEAD,
+    self, elements, holds, may_come_next, may_have_length, serial_in_four, set_word, starts,
+    value_refusals, Holds, HEAD,
 };
 use super::Reader;
 use crate::entries::DONE;
-use reference::package::{join, WrittenField, CHECK_FILE_TAGS};
+use reference::package::{join, stated_of, WrittenField, CHECK_FILE_TAGS};
 use reference::samples::Generator;
 use reference::small_field::F;
 use reference::{Place, Refusal};
+use std::slice;
 
 /// The places of a field, in the order of the table.
 pub const PLACES: [Place; 5] = [
@@ -21,14 +22,23 @@ pub const PLACES: [Place; 5] = [
 ];
 
 /// The refusals of a field at one of its places, in the order in which they are
-/// decided.
+/// decided. A field that may be absent is there by its tag, and so has no other.
 pub fn refusals_at(place: Place, tag: u8) -> &'static [Refusal] {
     match place {
-        Place::Head | Place::Content => &[Refusal::BytesMissing],
-        Place::Tag => &[Refusal::Tag],
-        Place::Length => &[Refusal::FieldLength],
+        Place::Tag if stated_of(tag).optional => &[],
         Place::Values => value_refusals(tag),
-        Place::End => &[Refusal::BytesFollow],
+        _ => slice::from_ref(refusal_of(place)),
+    }
+}
+
+/// The refusal of a place but that of values.
+fn refusal_of(place: Place) -> &'static Refusal {
+    match place {
+        Place::Head | Place::Content => &Refusal::BytesMissing,
+        Place::Tag => &Refusal::Tag,
+        Place::Length => &Refusal::FieldLength,
+        Place::Values => panic!("each field has its own refusals of values"),
+        Place::End => &Refusal::BytesFollow,
     }
 }
 
@@ -110,7 +120,10 @@ impl Draft {
         match place {
             Place::Head => self.cut(index, generator.below(HEAD)),
             Place::Tag => {
-                self.fields[index].tag = other_tag(self.fields[index].tag, generator);
+                let tag = self.fields[index].tag;
+                let mut others = std::iter::repeat_with(|| other_tag(tag, generator));
+                let other = others.find(|&other| !may_come_next(&self.fields, index, other));
+                self.fields[index].tag = other.expect("another tag");
             }
             Place::Length => {
                 let field = &mut self.fields[index];
@@ -128,8 +141,7 @@ impl Draft {
             Place::Values => return spoil_values(&mut self.fields[index], generator),
             Place::End => self.following = following(generator),
         }
-        // These places have one refusal for every tag.
-        refusals_at(place, 0)[0]
+        *refusal_of(place)
     }
 }
 
@@ -182,18 +194,19 @@ pub fn following(generator: &mut Generator) -> Vec<u8> {
 }
 
 /// Faults of the values of a field that has content and such refusals: one of
-/// them, and about every other time each that is decided later. The first.
+/// them, and about every other time each that is decided later, those first, so
+/// that none takes the first away. The first.
 pub fn spoil_values(field: &mut WrittenField, generator: &mut Generator) -> Refusal {
     let refusals = value_refusals(field.tag);
     let (first, later) = refusals[generator.below(refusals.len())..]
         .split_first()
         .expect("a refusal at the place of values");
-    spoil_value(field, *first, generator);
-    for refusal in later {
+    for refusal in later.iter().rev() {
         if generator.below(2) == 0 {
             spoil_value(field, *refusal, generator);
         }
     }
+    spoil_value(field, *first, generator);
     *first
 }
 
@@ -215,6 +228,7 @@ fn spoil_value(field: &mut WrittenField, refusal: Refusal, generator: &mut Gener
             let at = any_place(elements(field), generator);
             set_word(field, at, word_above(generator));
         }
+        Refusal::ZeroTarget => field.content.fill(0),
         Refusal::LongSerial => {
             let any = generator.number() as u16;
             let serial = any_of(&[0, 1, 255, 256, 32_768, 65_535, any, any], generator);

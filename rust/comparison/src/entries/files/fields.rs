@@ -4,8 +4,8 @@ use crate::entries::keyed;
 use crate::kinds::Kind;
 use reference::key::Sizes;
 use reference::package::{
-    check_fields, field_of, index_of, package_fields, serial_bytes, tag, words, WrittenField,
-    SERIAL_LENGTHS,
+    check_fields, field_of, index_of, package_fields, serial_bytes, stated_of, tag, words, y_field,
+    WrittenField, SERIAL_LENGTHS,
 };
 use reference::samples::{independent, Generator};
 use reference::small_field::F;
@@ -52,6 +52,11 @@ const FIELDS: &[Field] = &[
     field(tag::SIZES, Holds::Sizes, &[Refusal::SizeN, Refusal::SizeM]),
     field(tag::H, Holds::Words, &[Refusal::KeyElement]),
     field(tag::X, Holds::Words, &[Refusal::KeyElement]),
+    field(
+        tag::Y,
+        Holds::Words,
+        &[Refusal::KeyElement, Refusal::ZeroTarget],
+    ),
     field(tag::SERIAL, Holds::Serial, &[Refusal::LongSerial]),
     field(tag::T, Holds::Bits, &[Refusal::Bit]),
     field(tag::A, Holds::Words, &[Refusal::Coordinate]),
@@ -77,8 +82,33 @@ pub fn value_refusals(tag: u8) -> &'static [Refusal] {
     of_tag(tag).map_or(&[], |field| field.refusals)
 }
 
+/// Whether this tag may come next where the field with this index stands: after
+/// x that of y and that of the serial may.
+pub fn may_come_next(fields: &[WrittenField], index: usize, tag: u8) -> bool {
+    let after_x = index > 0 && fields[index - 1].tag == tag::X;
+    tag == fields[index].tag || after_x && [tag::Y, tag::SERIAL].contains(&tag)
+}
+
+/// y: none where it is all zero, as in about every other list.
+pub fn any_target(m: usize, generator: &mut Generator) -> Vec<u16> {
+    let kinds = [Kind::Zero, Kind::Zero, Kind::Random, Kind::Edges];
+    kinds[generator.below(kinds.len())].words(m, generator)
+}
+
+/// Puts the field of this y after x, in the place of the one that the list has.
+pub fn set_target(fields: &mut Vec<WrittenField>, y: &[u16]) {
+    fields.retain(|field| field.tag != tag::Y);
+    fields.insert(index_of(fields, tag::X) + 1, y_field(y));
+}
+
+/// Whether a field is that of y and all its elements are zero.
+pub fn zero_target(field: &WrittenField) -> bool {
+    field.tag == tag::Y && field.content.iter().all(|&byte| byte == 0)
+}
+
 /// The fields of a check file with any values that no refusal applies to. One
-/// in eight lists is all 0, and one in eight of the largest values.
+/// in eight lists is all 0, and one in eight of the largest values; about every
+/// other file has a field y.
 pub fn any_fields(n: usize, m: usize, generator: &mut Generator) -> Vec<WrittenField> {
     let sizes = keyed::sizes(n, m);
     let mut kind = || match generator.below(8) {
@@ -98,10 +128,28 @@ pub fn any_fields(n: usize, m: usize, generator: &mut Generator) -> Vec<WrittenF
     let [x, a, q, masks, delta, alpha] = lists.map(|(kind, len)| kind.words(len, generator));
     let h = h.rows(sizes, None, generator);
     let t = t.bits(sizes.bit_bytes(), generator);
-    let key = Key { n, m, h: &h, x: &x };
+    let y = any_target(m, generator);
+    let key = Key {
+        n,
+        m,
+        h: &h,
+        x: &x,
+        y: &y,
+    };
     let mut fields = package_fields(key, any_serial(generator), &t, &a);
     fields.extend(check_fields(&q, &masks, &delta, &alpha));
     fields
+}
+
+/// The fields of a check file without y, and with one.
+pub fn both_forms(n: usize, m: usize, generator: &mut Generator) -> [Vec<WrittenField>; 2] {
+    let mut without = any_fields(n, m, generator);
+    without.retain(|field| field.tag != tag::Y);
+    let mut with = without.clone();
+    let mut y = any_target(m, generator);
+    y[generator.below(m)] |= 1;
+    set_target(&mut with, &y);
+    [without, with]
 }
 
 /// The serials about powers of two and of ten.
@@ -196,33 +244,41 @@ pub fn elements(field: &WrittenField) -> usize {
     }
 }
 
-/// The tags of the fields of a key, with which a file begins.
-pub const KEY_TAGS: [u8; 3] = [tag::SIZES, tag::H, tag::X];
+/// The tags of the fields of a key, with which a file begins; the last may be
+/// absent.
+pub const KEY_TAGS: [u8; 4] = [tag::SIZES, tag::H, tag::X, tag::Y];
 
 /// n and H of a file that begins with these fields; none where those of the key
 /// aren't right.
 pub fn rows_of_key(fields: &[WrittenField]) -> Option<(usize, Vec<u16>)> {
-    let key @ [sizes, h, x] = fields.get(..KEY_TAGS.len())? else {
-        return None;
-    };
-    let &[n, m] = &sizes.content[..] else {
+    let &[n, m] = &fields.first()?.content[..] else {
         return None;
     };
     let sizes = Sizes::judged(n.into(), m.into()).ok()?;
-    let stated = [2, 2 * sizes.h_words(), 2 * sizes.x_words()];
-    let right = key
-        .iter()
-        .zip(KEY_TAGS)
-        .zip(stated)
-        .all(|((field, tag), length)| {
-            field.tag == tag && field.content.len() == length && usize::from(field.length) == length
-        });
-    if !right {
-        return None;
+    let mut rest = fields.iter().peekable();
+    let mut h = Vec::new();
+    for tag in KEY_TAGS {
+        let stated = stated_of(tag);
+        let Some(field) = rest.next_if(|field| field.tag == tag) else {
+            if stated.optional {
+                continue;
+            }
+            return None;
+        };
+        let length = field.content.len();
+        let right = (stated.lengths)(sizes).contains(&length);
+        if !right || usize::from(field.length) != length || zero_target(field) {
+            return None;
+        }
+        let list = words(&field.content);
+        if tag != tag::SIZES && list.iter().any(|&word| word > F::LARGEST) {
+            return None;
+        }
+        if tag == tag::H {
+            h = list;
+        }
     }
-    let [h, x] = [h, x].map(|field| words(&field.content));
-    let mut all = h.iter().chain(&x);
-    all.all(|&word| word <= F::LARGEST).then_some((sizes.n, h))
+    Some((sizes.n, h))
 }
 
 /// Whether rows of H depend on each other, in a file whose key has no other

@@ -3,17 +3,23 @@
 use super::damage::{damaged_file, Pool};
 use super::faults::{any_of, faulty, following, set_value, spots, Draft};
 use super::fields::{
-    any_fields, content_mut, elements, holds, may_have_length, serial_field, serial_in_four,
-    serials_about_powers, set_serial, value_refusals, Holds, HEAD,
+    any_fields, both_forms, content_mut, elements, holds, may_come_next, may_have_length,
+    serial_field, serial_in_four, serials_about_powers, set_serial, set_target, value_refusals,
+    Holds, HEAD,
 };
 use super::{case, File, Reader};
 use crate::case::{decided, Case, Group};
 use crate::entries::{keyed, DONE};
 use crate::lent::Lent;
-use reference::package::{field_of, join, tag, WrittenField, SERIAL_LENGTHS};
+use reference::package::{
+    field_of, index_of, join, stated_of, tag, y_field, WrittenField, SERIAL_LENGTHS,
+};
 use reference::samples::Generator;
+use reference::small_field::F;
 use reference::Refusal;
 
+/// 4: an element of the key is above 2047.
+const KEY_ELEMENT: u32 = 4;
 /// 9: bytes are missing.
 const MISSING: u32 = 9;
 /// 10: "not the tag that comes next".
@@ -22,6 +28,8 @@ const TAG: u32 = 10;
 const LENGTH: u32 = 11;
 /// 12: "bytes follow the last field".
 const FOLLOW: u32 = 12;
+/// 14: "field 04 is present and all its elements are zero".
+const ZERO_TARGET: u32 = 14;
 /// 19: "a four-byte serial is below 65,536".
 const LONG_SERIAL: u32 = 19;
 
@@ -34,6 +42,7 @@ pub fn fault_groups<R: Reader>() -> Vec<Group> {
         sizes::<R>(),
         each_value::<R>(),
         serials::<R>(),
+        targets::<R>(),
         two_faults::<R>(),
         order::<R>(),
         short::<R>(),
@@ -141,10 +150,11 @@ pub const fn one_fault<R: Reader>() -> Group {
 /// Every other tag and many other lengths of each field.
 pub const fn heads<R: Reader>() -> Group {
     Group::new("every other tag, other lengths", |generator, each| {
-        for &(n, m) in &R::SMALL[..3] {
-            let fields = any_fields(n, m, generator);
+        let forms = |&(n, m)| both_forms(n, m, generator);
+        let files: Vec<_> = R::SMALL[..3].iter().flat_map(forms).collect();
+        for fields in files {
             for (index, field) in R::FILE.part(&fields).iter().enumerate() {
-                for other in (0..=255).filter(|&other| other != field.tag) {
+                for other in (0..=255).filter(|&other| !may_come_next(&fields, index, other)) {
                     let mut draft = Draft::new::<R>(&fields);
                     draft.fields[index].tag = other;
                     each(case::<R>(&draft.bytes(), Some(TAG), generator));
@@ -277,6 +287,128 @@ pub const fn serials<R: Reader>() -> Group {
     )
 }
 
+/// y as it is and is not allowed: zeros, each bit alone, other lengths, cut, and
+/// in other places.
+pub const fn targets<R: Reader>() -> Group {
+    Group::new(
+        "y of zeros, each bit of y, other lengths and places",
+        |generator, each| {
+            for &(n, m) in &R::SMALL[..5] {
+                let [without, with] = both_forms(n, m, generator);
+                values_of_target::<R>(&with, m, generator, each);
+                lengths_of_target::<R>(&with, m, generator, each);
+                places_of_target::<R>(&without, &with, generator, each);
+                ends_at_target::<R>(&with, generator, each);
+            }
+        },
+    )
+}
+
+/// y of zeros, and with each bit alone.
+fn values_of_target<R: Reader>(
+    fields: &[WrittenField],
+    m: usize,
+    generator: &mut Generator,
+    each: &mut dyn FnMut(Case),
+) {
+    let mut lists = vec![(vec![0; m], ZERO_TARGET)];
+    for (at, bit) in (0..m).flat_map(|at| (0..16).map(move |bit| (at, bit))) {
+        let mut y = vec![0; m];
+        y[at] = 1 << bit;
+        lists.push((
+            y.clone(),
+            if y[at] > F::LARGEST {
+                KEY_ELEMENT
+            } else {
+                DONE
+            },
+        ));
+    }
+    for (y, answer) in lists {
+        let mut draft = Draft::new::<R>(fields);
+        set_target(&mut draft.fields, &y);
+        each(case::<R>(&draft.bytes(), Some(answer), generator));
+        // In a cut field the bytes are missing first.
+        let index = index_of(&draft.fields, tag::Y);
+        draft.cut(index, HEAD + 2 * m - 1);
+        each(case::<R>(&draft.bytes(), Some(MISSING), generator));
+    }
+}
+
+/// Other lengths of y than 2m, of zeros too, with as much content and without.
+fn lengths_of_target<R: Reader>(
+    fields: &[WrittenField],
+    m: usize,
+    generator: &mut Generator,
+    each: &mut dyn FnMut(Case),
+) {
+    for length in (0..200).filter(|&length| usize::from(length) != 2 * m) {
+        for zero in [false, true] {
+            let mut draft = Draft::new::<R>(fields);
+            let field = field_of(&mut draft.fields, tag::Y);
+            field.length = length;
+            if zero {
+                field.content.fill(0);
+            }
+            each(case::<R>(&draft.bytes(), Some(LENGTH), generator));
+            content_mut(&mut draft.fields, tag::Y).resize(length.into(), 0);
+            each(case::<R>(&draft.bytes(), Some(LENGTH), generator));
+        }
+    }
+}
+
+/// y in each place but after x, in a file without it and besides.
+fn places_of_target<R: Reader>(
+    without: &[WrittenField],
+    with: &[WrittenField],
+    generator: &mut Generator,
+    each: &mut dyn FnMut(Case),
+) {
+    let y = &with[index_of(with, tag::Y)];
+    for fields in [without, with] {
+        let right = R::FILE.part(fields);
+        each(case::<R>(&join(right), Some(DONE), generator));
+        let after_x = index_of(right, tag::X) + 1;
+        for place in (0..=right.len()).filter(|&place| place != after_x) {
+            // Zeros are not looked at there.
+            for y in [y.clone(), y_field(&vec![0; y.content.len() / 2])] {
+                let mut list = right.to_vec();
+                list.insert(place, y);
+                let answer = if place == right.len() { FOLLOW } else { TAG };
+                each(case::<R>(&join(&list), Some(answer), generator));
+            }
+        }
+    }
+}
+
+/// A file that ends where y stands: after each byte of it, and after one, two or
+/// three other bytes.
+fn ends_at_target<R: Reader>(
+    fields: &[WrittenField],
+    generator: &mut Generator,
+    each: &mut dyn FnMut(Case),
+) {
+    let index = index_of(fields, tag::Y);
+    let start = join(&fields[..index]);
+    let y = join(&fields[index..=index]);
+    for len in 0..=y.len() {
+        let bytes = [&start[..], &y[..len]].concat();
+        each(case::<R>(&bytes, Some(MISSING), generator));
+    }
+    for first in 0..=255 {
+        let head = [first, 0, 0];
+        for len in [1, 2, 3] {
+            let answer = match first {
+                _ if len < HEAD => MISSING,
+                tag::Y | tag::SERIAL => LENGTH,
+                _ => TAG,
+            };
+            let bytes = [&start[..], &head[..len]].concat();
+            each(case::<R>(&bytes, Some(answer), generator));
+        }
+    }
+}
+
 /// Two faults, at each pair of places: the first in the order of the table
 /// decides.
 pub const fn two_faults<R: Reader>() -> Group {
@@ -295,12 +427,16 @@ pub const fn two_faults<R: Reader>() -> Group {
 }
 
 /// The file with this field left out, put before each other, and exchanged with
-/// those before it, each with its answer.
+/// those before it, each with its answer. Without y the file is right.
 fn other_orders(fields: &[WrittenField], index: usize) -> Vec<(Vec<WrittenField>, u32)> {
     let last = fields.len() - 1;
     let mut without = fields.to_vec();
     let gone = without.remove(index);
-    let answer = if index == last { MISSING } else { TAG };
+    let answer = match index {
+        _ if stated_of(gone.tag).optional => DONE,
+        _ if index == last => MISSING,
+        _ => TAG,
+    };
     let mut list = vec![(without, answer)];
     for place in 0..=fields.len() {
         let mut twice = fields.to_vec();
@@ -322,8 +458,9 @@ pub const fn order<R: Reader>() -> Group {
     Group::new(
         "fields exchanged, repeated or left out",
         |generator, each| {
-            for &(n, m) in R::SMALL {
-                let fields = any_fields(n, m, generator);
+            let forms = |&(n, m)| both_forms(n, m, generator);
+            let files: Vec<_> = R::SMALL.iter().flat_map(forms).collect();
+            for fields in files {
                 let fields = R::FILE.part(&fields);
                 for index in 0..fields.len() {
                     for (list, answer) in other_orders(fields, index) {

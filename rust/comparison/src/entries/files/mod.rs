@@ -31,6 +31,7 @@ pub const REFUSALS: &[Refusal] = &[
     Refusal::SizeN,
     Refusal::SizeM,
     Refusal::KeyElement,
+    Refusal::ZeroTarget,
     Refusal::LongSerial,
     Refusal::Bit,
     Refusal::Coordinate,
@@ -47,7 +48,7 @@ pub enum File {
 }
 
 impl File {
-    /// The tags that it can have, in their order.
+    /// The tags that it can have, in their order; that of y may be absent.
     pub fn tags(self) -> &'static [u8] {
         match self {
             File::Package => &PACKAGE_TAGS,

@@ -1,14 +1,17 @@
 //! The table of a reader: each field with the refusals of its places.
 
 use super::faults::{refusals_at, PLACES};
+use super::fields::walked;
 use super::File;
 use crate::case::{Cell, Rows};
-use reference::package::serial_bytes;
+use reference::package::{serial_bytes, tag};
 use reference::{Contents, Place, Refusal, Refused};
 
-/// The row of files that are read, by the bytes that their serial takes.
-fn read(serial: u32) -> String {
-    format!("read, {}", serial_bytes(serial).len())
+/// The row of files that are read, by whether they have a field y and by the
+/// bytes that their serial takes.
+fn read(target: bool, serial: u32) -> String {
+    let y = if target { "y, " } else { "" };
+    format!("{y}{} bytes", serial_bytes(serial).len())
 }
 
 /// The row of files that bytes follow.
@@ -61,14 +64,19 @@ pub fn rows(file: File, answers: &[&str]) -> Rows {
     let end = column(Place::End, Refusal::BytesFollow);
     rows.push((END.to_string(), vec![end]));
     let answers: Vec<String> = answers.iter().map(ToString::to_string).collect();
-    rows.extend([0, u32::MAX].map(|serial| (read(serial), answers.clone())));
+    for target in [false, true] {
+        rows.extend([0, u32::MAX].map(|serial| (read(target, serial), answers.clone())));
+    }
     rows
 }
 
-/// The row and the column of what a reader answers.
-pub fn cell(judged: Result<Contents, Refused>) -> Cell {
+/// The row and the column of what a reader answers for these bytes.
+pub fn cell(bytes: &[u8], judged: Result<Contents, Refused>) -> Cell {
     match judged {
-        Ok(contents) => (read(contents.serial), "0".to_string()),
+        Ok(contents) => {
+            let target = walked(bytes).any(|field| field.tag == tag::Y);
+            (read(target, contents.serial), "0".to_string())
+        }
         Err(refused) => (
             refused.tag.map_or(END.to_string(), row),
             column(refused.place, refused.refusal),

@@ -5,23 +5,22 @@ use crate::case::{Case, Group};
 use crate::entries::keyed::{self, bits_of, changed};
 use crate::entries::{DONE, REJECTED};
 use crate::kinds::Kind;
-use crate::slices::{A, DELTA, H, MASKS, T};
+use crate::slices::{A, ALPHA, DELTA, H, MASKS, T, Y};
 use reference::large_field::{COORDINATES, K};
 use reference::samples::{independent, Generator};
 
 /// The answer to an accepted case with another element of this input, where it
 /// is known without the reference: K has no zero divisors, so a change of a or
-/// of a mask number is seen, unless the challenge is zero and the power isn't.
+/// of a mask number is seen, unless the challenge is zero and the power isn't;
+/// and one of y, unless the challenge or the weight of its row is zero.
 fn answer_to_change(case: &Case, input: &str, index: usize) -> Option<u32> {
-    if input != A && input != MASKS {
-        return None;
-    }
     let zero = elements(&case.inputs[DELTA])[0] == K::ZERO;
-    Some(if zero && index >= COORDINATES {
-        DONE
-    } else {
-        REJECTED
-    })
+    let unseen = match input {
+        A | MASKS => zero && index >= COORDINATES,
+        Y => zero || elements(&case.inputs[ALPHA])[case.key().n + index] == K::ZERO,
+        _ => return None,
+    };
+    Some(if unseen { DONE } else { REJECTED })
 }
 
 /// Whether the rows of H do not depend on each other.
@@ -116,13 +115,13 @@ pub const EVERY_BIT: Group = Group::new(
     },
 );
 
-/// At the challenge zero, each word of a and of the mask numbers changed.
+/// At the challenge zero, each word of y, of a and of the mask numbers changed.
 pub const CHALLENGE_ZERO: Group = Group::new(
-    "challenge zero, each word of a and of the mask numbers changed",
+    "challenge zero, each word of y, of a and of the mask numbers changed",
     |generator, each| {
         for (n, m) in [(2, 1), (3, 1), (5, 2), (9, 4)] {
             let case = honest_at(keyed::sizes(n, m), Kind::Zero, generator);
-            for input in [MASKS, A] {
+            for input in [Y, MASKS, A] {
                 for index in 0..case.inputs[input].len() {
                     each(with_bit_changed(&case, input, index, generator));
                 }

@@ -13,11 +13,11 @@ use crate::case::{Case, Entry, Group, Taken};
 use crate::kinds::Kind;
 use crate::lent::Lent;
 use crate::library;
-use crate::slices::{A, ALPHA, DELTA, H, MASKS, Q, T, X};
+use crate::slices::{A, ALPHA, DELTA, H, MASKS, Q, T, X, Y};
 use changes::{with_any_change, with_bit_changed};
 use reference::key::{elements_of_k, Sizes};
 use reference::large_field::{COORDINATES, K};
-use reference::samples::{Generator, Sample};
+use reference::samples::{self, Generator, Sample};
 use reference::{Key, Refusal, Verdict};
 
 /// The slices and the refusals of verify.
@@ -26,6 +26,7 @@ pub struct Verify;
 impl Keyed for Verify {
     const READS: &'static [&'static str] = &[T, Q, DELTA, MASKS, ALPHA, A];
     const WRITES: &'static [&'static str] = &[];
+    const DONE: &'static [u32] = &[DONE, REJECTED];
     const REFUSALS: &'static [Refusal] = after_key!(Bit, Coordinate);
 
     /// About every other case is accepted.
@@ -58,7 +59,7 @@ fn call<Answer>(function: Function<Answer>, taken: &Taken) -> Answer {
 /// The entry verify.
 pub const VERIFY: Entry = Entry {
     name: "verify",
-    done: &[DONE, REJECTED],
+    done: Verify::DONE,
     refusals: Verify::REFUSALS,
     library: |taken, _| call(library::verify, taken),
     reference: |taken, _| match call(reference::verify, taken) {
@@ -83,6 +84,7 @@ pub const VERIFY: Entry = Entry {
         let rounds = rounds::groups::<Verify>();
         [own, rounds, fault_groups::<Verify>()].concat()
     },
+    table: Some(keyed::table::<Verify>()),
     least: rounds::least,
     ..keyed::ENTRY
 };
@@ -140,12 +142,23 @@ fn balanced(mut case: Case) -> Case {
 }
 
 const EXAMPLES: Group = Group::new("examples of the specification", |generator, each| {
-    for (word, answer) in [(5, DONE), (4, REJECTED)] {
-        let mut case = of_sample::<Verify>(&Sample::key_a(), generator);
-        let mut a = vec![0; COORDINATES];
-        a[0] = word;
-        case.set_bytes(T, &[1, 1]);
-        case.set_words(A, &a);
+    let (key_a, with_target) = (Sample::key_a(), Sample::key_a_with_target());
+    let three = Sample::three_with_target();
+    let examples: [(&Sample, &[u8], &[u16], u32); 8] = [
+        (&key_a, &[1, 1], &[5], DONE),
+        (&key_a, &[1, 1], &[4], REJECTED),
+        (&with_target, &[0, 0], &[5], DONE),
+        (&with_target, &[0, 0], &[4], REJECTED),
+        // The proof of the one key for the other.
+        (&key_a, &[0, 0], &[5], REJECTED),
+        (&with_target, &[1, 1], &[5], REJECTED),
+        (&three, &[0, 1, 0, 0, 1, 0], &[31, 10], DONE),
+        (&three, &[0, 1, 0, 0, 1, 0], &[31, 11], REJECTED),
+    ];
+    for (sample, t, a, answer) in examples {
+        let mut case = of_sample::<Verify>(sample, generator);
+        case.set_bytes(T, t);
+        case.set_words(A, &samples::elements(a));
         each(case.answering(Some(answer)));
     }
 });
@@ -240,6 +253,7 @@ const EXTREMES: Group = Group::new(keyed::EXTREMES, |generator, each| {
         let kinds = [
             (H, key),
             (X, key),
+            (Y, key.next_extreme(turn / 27)),
             (T, t),
             (Q, q),
             (DELTA, Kind::EXTREMES[turn % 3]),
@@ -270,6 +284,7 @@ fn accepted(round: &Round, generator: &mut Generator) -> Case {
     let kinds = [
         (H, h),
         (X, x),
+        (Y, t),
         (T, t),
         (Q, q),
         (DELTA, delta),

@@ -163,52 +163,60 @@ fn weights_a(first: u16) -> [u16; 36] {
     alpha
 }
 
-// Key A with this y and these positions, by constraints and by prove.
-fn key_a(name: &[u8], target: u16, positions: &[u8], none: &[u16]) {
-    let key = Key { n: 2, m: 1 };
-    let h = [2u16, 1];
-    let x = [1u16, 2];
-    let y = [target];
-    let u = [1u8, 0];
-    let v = two(1, 4);
-    let alpha = weights_a(1);
-    let mut t = [0u8; 2];
-    let mut polynomials = [0u16; 72];
-    let mut a = [0u16; 12];
+// What a line begins with: the key, the positions and the entry.
+fn headed(name: &[u8], positions: &[u8], entry: &[u8]) {
     text(name);
     text(b", positions");
     bytes(positions);
-    text(b", constraints:");
+    text(entry);
+}
+
+// Key A with this y and these positions, by constraints.
+fn constraints_a(name: &[u8], target: u16, positions: &[u8]) {
+    let key = Key { n: 2, m: 1 };
+    let mut t = [0u8; 2];
+    let mut polynomials = [0u16; 72];
+    headed(name, positions, b", constraints:");
     constrained(
         key,
-        &h,
-        &x,
-        &y,
+        &[2u16, 1],
+        &[1u16, 2],
+        &[target],
         positions,
-        &u,
-        &v,
+        &[1u8, 0],
+        &two(1, 4),
         &mut t,
         &mut polynomials,
         2,
     );
-    text(name);
-    text(b", positions");
-    bytes(positions);
-    text(b", prove:");
+}
+
+// The same by prove.
+fn prove_a(name: &[u8], target: u16, positions: &[u8], none: &[u16]) {
+    let key = Key { n: 2, m: 1 };
+    let mut t = [0u8; 2];
+    let mut a = [0u16; 12];
+    headed(name, positions, b", prove:");
     proved(
         key,
-        &h,
-        &x,
-        &y,
+        &[2u16, 1],
+        &[1u16, 2],
+        &[target],
         positions,
-        &u,
-        &v,
+        &[1u8, 0],
+        &two(1, 4),
         none,
         none,
-        &alpha,
+        &weights_a(1),
         &mut t,
         &mut a,
     );
+}
+
+// Both.
+fn key_a(name: &[u8], target: u16, positions: &[u8], none: &[u16]) {
+    constraints_a(name, target, positions);
+    prove_a(name, target, positions, none);
 }
 
 // Key A with this y and this t, by values.
@@ -245,13 +253,8 @@ fn verify_a(name: &[u8], target: u16, t: &[u8], a: &[u16], none: &[u16]) {
     text(b"\n");
 }
 
-// n = 3 with this y and these positions, by constraints and by prove; m = 1, H = 1 0 0, x = 0 1 2.
-fn three(name: &[u8], target: u16, positions: &[u8]) {
-    let key = Key { n: 3, m: 1 };
-    let h = [1u16, 0, 0];
-    let x = [0u16, 1, 2];
-    let y = [target];
-    let u = [0u8; 6];
+// n = 3: the offsets 1 to 6.
+fn offsets_three() -> [u16; 72] {
     let mut v = [0u16; 72];
     v[0] = 1;
     v[12] = 2;
@@ -259,50 +262,65 @@ fn three(name: &[u8], target: u16, positions: &[u8]) {
     v[36] = 4;
     v[48] = 5;
     v[60] = 6;
-    let r = element(7);
-    let s = element(8);
+    v
+}
+
+// The weights 1 to 4.
+fn weights_three() -> [u16; 48] {
     let mut alpha = [0u16; 48];
     alpha[0] = 1;
     alpha[12] = 2;
     alpha[24] = 3;
     alpha[36] = 4;
+    alpha
+}
+
+// n = 3 with this y and these positions, by constraints; m = 1, H = 1 0 0, x = 0 1 2.
+fn constraints_three(name: &[u8], target: u16, positions: &[u8]) {
+    let key = Key { n: 3, m: 1 };
     let mut t = [0u8; 6];
     let mut polynomials = [0u16; 144];
-    let mut a = [0u16; 24];
-    text(name);
-    text(b", positions");
-    bytes(positions);
-    text(b", constraints:");
+    headed(name, positions, b", constraints:");
     constrained(
         key,
-        &h,
-        &x,
-        &y,
+        &[1u16, 0, 0],
+        &[0u16, 1, 2],
+        &[target],
         positions,
-        &u,
-        &v,
+        &[0u8; 6],
+        &offsets_three(),
         &mut t,
         &mut polynomials,
         3,
     );
-    text(name);
-    text(b", positions");
-    bytes(positions);
-    text(b", prove:");
+}
+
+// The same by prove.
+fn prove_three(name: &[u8], target: u16, positions: &[u8]) {
+    let key = Key { n: 3, m: 1 };
+    let mut t = [0u8; 6];
+    let mut a = [0u16; 24];
+    headed(name, positions, b", prove:");
     proved(
         key,
-        &h,
-        &x,
-        &y,
+        &[1u16, 0, 0],
+        &[0u16, 1, 2],
+        &[target],
         positions,
-        &u,
-        &v,
-        &r,
-        &s,
-        &alpha,
+        &[0u8; 6],
+        &offsets_three(),
+        &element(7),
+        &element(8),
+        &weights_three(),
         &mut t,
         &mut a,
     );
+}
+
+// Both.
+fn three(name: &[u8], target: u16, positions: &[u8]) {
+    constraints_three(name, target, positions);
+    prove_three(name, target, positions);
 }
 
 // The answers of constraints and prove to one key, with masks as r and s.
@@ -347,6 +365,55 @@ fn verifier_entries(
     text(b"\n");
 }
 
+// The answers of constraints and prove to key A, of these sizes, H, x, y and weights and this first word of v.
+fn edge_prover(key: Key, h: &[u16], x: &[u16], y: &[u16], v: u16, alpha: &[u16], none: &[u16]) {
+    let mut t = [0u8; 2];
+    let mut polynomials = [0u16; 72];
+    let mut proof = [0u16; 12];
+    prover_entries(
+        key,
+        h,
+        x,
+        y,
+        &[0u8, 1],
+        &[1u8, 0],
+        &two(v, 4),
+        none,
+        alpha,
+        &mut t,
+        &mut polynomials,
+        &mut proof,
+    );
+}
+
+// Those of values and verify, with these first words of q, the challenge and a.
+fn edge_verifier(
+    key: Key,
+    h: &[u16],
+    x: &[u16],
+    y: &[u16],
+    q: u16,
+    delta: u16,
+    alpha: &[u16],
+    a: u16,
+    none: &[u16],
+) {
+    let mut values = [0u16; 36];
+    verifier_entries(
+        key,
+        h,
+        x,
+        y,
+        &[1u8, 1],
+        &two(q, 4),
+        &element(delta),
+        none,
+        alpha,
+        &element(a),
+        &mut values,
+    );
+}
+
 // Key A with other sizes, or with another first word in H, x, y, v, q, the challenge, the weights or a.
 fn edge(
     name: &[u8],
@@ -362,43 +429,14 @@ fn edge(
     alpha: u16,
     a: u16,
 ) {
-    let mut t = [0u8; 2];
-    let mut polynomials = [0u16; 72];
-    let mut values = [0u16; 36];
-    let mut proof = [0u16; 12];
     let key = Key { n, m };
     let matrix = [h, 1];
     let vector = [x, 2];
     let target = [y];
     let weights = weights_a(alpha);
     text(name);
-    prover_entries(
-        key,
-        &matrix,
-        &vector,
-        &target,
-        &[0u8, 1],
-        &[1u8, 0],
-        &two(v, 4),
-        none,
-        &weights,
-        &mut t,
-        &mut polynomials,
-        &mut proof,
-    );
-    verifier_entries(
-        key,
-        &matrix,
-        &vector,
-        &target,
-        &[1u8, 1],
-        &two(q, 4),
-        &element(delta),
-        none,
-        &weights,
-        &element(a),
-        &mut values,
-    );
+    edge_prover(key, &matrix, &vector, &target, v, &weights, none);
+    edge_verifier(key, &matrix, &vector, &target, q, delta, &weights, a, none);
 }
 
 // 2047 and 2048 in each slice of key A.

@@ -90,8 +90,8 @@ fn shares(
     }
 }
 
-// Writes the d coefficients below X^d of the sum of the n + m polynomials, each times its weight: y has no part in them. beta is room for n elements, work for
-// (d + 1) 2^d.
+// Writes the d coefficients below X^d of the sum of the n + m polynomials, each times its weight: y has no part in them. beta is room
+// for n elements, work for (d + 1) 2^d.
 pub fn weighted(
     dst: &mut [u16],
     n: usize,

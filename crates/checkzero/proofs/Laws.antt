@@ -104,10 +104,23 @@ module _ (R : Ring) where
         same : (i : ℕ) → 0 + i ≡ i
         same i = omega arith
 
-  -- mask numbers times powers of Δ, in either order
-  pub mask-evaluated : (n : ℕ) (Δ : Carrier) (numbers : ℕ → Carrier) → sigma R n (λ k. numbers k ⊗ pow R Δ k) ≡ maskSum R n Δ numbers
-  unfolding maskSum
-  mask-evaluated n Δ numbers = ap (sigma R n) (λ t k. R .mul-comm (numbers k) (pow R Δ k) t)
+  -- the power and the mask sum, from one mask to the next
+  module _ (Δ : Carrier) where
+    pub pow-none : 𝟙 ≡ pow R Δ 0
+    unfolding pow
+    pow-none = refl
+
+    pub pow-more : (k : ℕ) → pow R Δ k ⊗ Δ ≡ pow R Δ (k + 1)
+    unfolding pow
+    pow-more k = R .mul-comm (pow R Δ k) Δ ∙ ap (pow R Δ) (sym (add-one k))
+
+    pub mask-sum-none : (numbers : ℕ → Carrier) → 𝟘 ≡ maskSum R 0 Δ numbers
+    unfolding maskSum
+    mask-sum-none numbers = sym (sigma-none (λ k. pow R Δ k ⊗ numbers k))
+
+    pub mask-sum-more : (numbers : ℕ → Carrier) (k : ℕ) → maskSum R k Δ numbers ⊕ pow R Δ k ⊗ numbers k ≡ maskSum R (k + 1) Δ numbers
+    unfolding maskSum
+    mask-sum-more numbers k = sigma-more k (λ k. pow R Δ k ⊗ numbers k)
 
   -- the sum of the c i of i below j is added
   module _ (f : ℕ → Carrier) (c : ℕ → ℕ → Carrier) (n : ℕ) where

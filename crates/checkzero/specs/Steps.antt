@@ -4,11 +4,13 @@ use mathlib.Core.List.{List}
 use Rattle.field.specs.Ring.{Ring}
 use Rattle.field.specs.declared.Level.{Level}
 use Rattle.field.specs.Level.{K}
+use Rattle.field.specs.Packed.{Holds}
 use Rattle.constraints.specs.Graded.{sigma, pow}
 use Rattle.row.specs.Elements.{el}
 use Rattle.row.specs.Polynomial.{column, check}
 use Rattle.row.specs.Lent.{smallOf, entryOf, digitOf, elementOf}
 use Rattle.folding.specs.Weights.{weightedSum}
+use Rattle.checkzero.specs.CheckZero.{maskSum}
 
 module _ (l : Level) where
   -- coefficient k of the sum of the n + m polynomials, each with its weight
@@ -18,3 +20,8 @@ module _ (l : Level) where
   -- the sum of the first n elements, each times its power of Δ
   abbrev pub evaluated : (n : ℕ) (s : List ℕ) → K l .Carrier → K l .Carrier
   evaluated n s Δ = sigma (K l) n (λ k. K l .mul (el l s k) (pow (K l) Δ k))
+
+-- what the mask sum holds at mask k, in packed words: Δ to the power k, and the sum of the terms before mask k
+pub record AtMask (l : Level) (Δ : K l .Carrier) (numbers : ℕ → K l .Carrier) (k : ℕ) (ps ts : List ℕ) : Type 0 where
+  pub power : Holds l ps (pow (K l) Δ k)
+  pub total : Holds l ts (maskSum (K l) k Δ numbers)

@@ -14,7 +14,7 @@ ghost use Rattle.row.specs.Lent.{LentKey};
 ghost use Rattle.row.specs.Step.{Step, Added};
 ghost use Rattle.checkzero.specs.CheckZero.{mask, maskSum};
 ghost use Rattle.checkzero.specs.Slices.{every};
-ghost use Rattle.checkzero.specs.Steps.{weightedAt, evaluated};
+ghost use Rattle.checkzero.specs.Steps.{weightedAt, evaluated, AtMask};
 use field::Element;
 use field::Multiples;
 use folding::polynomials;
@@ -91,10 +91,38 @@ pub fn evaluate(a: &[u16], delta: Element, count: usize, level: usize) -> Elemen
     total
 }
 
+// What the mask sum holds at mask k: the power k of the challenge, and the sum of the terms before mask k.
+struct Running {
+    power: Element,
+    total: Element,
+}
+
+// One turn of the mask sum: handed the power k of the challenge and the sum of the terms before mask k, answers the power k + 1
+// and the sum with the term of mask k. Two products, both of the power that it is handed.
+fn turn(held: Running, masks: &[u16], delta: Element, k: usize, level: usize) -> Running
+    requires { ⌜ Words (levelAt level) (now masks) × Held (levelAt level) (delta .words) × Fits (levelAt level) (k + 1) (length (now masks)) × AtMask (levelAt level) (valueOf (levelAt level) (delta .words)) (el (levelAt level) (now masks)) k (held .power .words) (held .total .words) ⌝ }
+    ensures { λ r. ⌜ AtMask (levelAt level) (valueOf (levelAt level) (delta .words)) (el (levelAt level) (now (masks .entry))) (k + 1) (r .power .words) (r .total .words) ⌝ }
+{
+    let power = held.power;
+    let number = elements::get(masks, k, level);
+    let next = power.times(delta, level);
+    let term = power.times(number, level);
+    let total = held.total.plus(term, level);
+    Running { power: next, total }
+}
+
 // The sum of the first count mask numbers, each times its power of the challenge.
 pub fn mask_sum(masks: &[u16], delta: Element, count: usize, level: usize) -> Element
     requires { ⌜ Words (levelAt level) (now masks) × Held (levelAt level) (delta .words) × Fits (levelAt level) count (length (now masks)) ⌝ }
     ensures { λ r. ⌜ Holds (levelAt level) (r .words) (maskSum (K (levelAt level)) count (valueOf (levelAt level) (delta .words)) (el (levelAt level) (now (masks .entry)))) ⌝ }
 {
-    evaluate(masks, delta, count, level)
+    let power = Element::one(level);
+    let total = Element::zero(level);
+    let mut held = Running { power, total };
+    let mut k: usize = 0;
+    while k < count {
+        held = turn(held, masks, delta, k, level);
+        k += 1;
+    }
+    held.total
 }

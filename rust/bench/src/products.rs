@@ -23,9 +23,9 @@ pub fn prove(n: usize, d: usize) -> usize {
 /// Verify: the weights of the columns and of each row times the challenge, one
 /// product for each pair of the first digit and two for each further pair; then
 /// the power of the challenge and its product with the sum of the columns'
-/// weights, the mask numbers and a. The algorithm in Rust takes one less: it
-/// multiplies that sum by the challenge d times.
+/// weights, two for each mask number, and a. The algorithm in Rust takes one
+/// less: it multiplies that sum by the challenge d times.
 pub fn verify(n: usize, d: usize) -> usize {
     let pairs = 1 << (d - 1);
-    n + n * (1 + pairs + 2 * (pairs - 1)) + (d + 1) + (d - 1) + d
+    n + n * (1 + pairs + 2 * (pairs - 1)) + (d + 1) + 2 * (d - 1) + d
 }

@@ -121,9 +121,10 @@ pub fn verify(
         Ok(key) => key,
         Err(refusal) => return refusal.number(),
     };
-    let delta = Multiples::of(load(delta, 0));
+    let challenge = load(delta, 0);
+    let delta = Multiples::of(challenge);
     let sum = fold::values(key, t, q, &delta, alpha);
-    let expected = plus(sum, fold::evaluated(masks, key.d - 1, &delta));
+    let expected = plus(sum, fold::mask_sum(masks, key.d - 1, &challenge));
     if fold::evaluated(a, key.d, &delta) == expected {
         0
     } else {

@@ -2,7 +2,7 @@
 //! them: two columns that differ in one digit, the highest first, are folded
 //! into one.
 
-use crate::element::{load, mask, masked, plus, Element, Multiples, ZERO};
+use crate::element::{load, mask, masked, plus, Element, Multiples, ONE, ZERO};
 use crate::rows::{Within, COEFFICIENTS, COLUMNS};
 use reference::Key;
 
@@ -115,6 +115,18 @@ pub fn values(key: Within, t: &[u8], q: &[u16], delta: &Multiples, alpha: &[u16]
     }
     let power = (0..d).fold(weights.target, |power, _| delta.times(&power));
     plus(total, power)
+}
+
+/// The sum of the first lent mask numbers, each times its power of the
+/// challenge, which is kept from one to the next.
+pub fn mask_sum(masks: &[u16], count: usize, delta: &Element) -> Element {
+    let (mut power, mut total) = (ONE, ZERO);
+    for k in 0..count {
+        let multiples = Multiples::of(power);
+        total = plus(total, multiples.times(&load(masks, k)));
+        power = multiples.times(delta);
+    }
+    total
 }
 
 /// A polynomial of lent coefficients, that of X^0 first, at the challenge.

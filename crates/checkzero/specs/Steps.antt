@@ -1,4 +1,5 @@
--- Sums that the functions of this crate make, of the elements of lists: a reader of the entries need not believe this file.
+-- Sums that the functions of this crate make, of the elements of lists, and what the mask sum holds at each mask: a reader of the entries
+-- need not believe this file.
 use Prim.Native.Nat.{ℕ}
 use mathlib.Core.List.{List}
 use Rattle.field.specs.Ring.{Ring}

@@ -2,7 +2,6 @@
 -- need not believe this file.
 use Prim.Native.Nat.{ℕ}
 use mathlib.Core.List.{List}
-use Rattle.field.specs.Ring.{Ring}
 use Rattle.field.specs.declared.Level.{Level}
 use Rattle.field.specs.Level.{K}
 use Rattle.field.specs.Packed.{Holds}

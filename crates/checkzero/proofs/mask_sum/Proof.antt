@@ -1,10 +1,9 @@
 use mathlib.Core.Path.{_≡_, refl, subst}
-use Prim.Native.Nat.{ℕ, _+_, _-_, _≤_}
+use Prim.Native.Nat.{_+_, _-_, _≤_}
 use native.Mathlib.Omega.{arith}
 use borrow.Author.Needs.{needs}
 use Rattle.field.specs.Packed.{Holds}
 use Rattle.field.specs.Level.{levelAt, K}
-use Rattle.field.specs.declared.Level.{Level}
 use Rattle.row.specs.Elements.{el, valueOf}
 use Rattle.row.proofs.ElementLaws.{fits-le}
 use Rattle.checkzero.specs.CheckZero.{maskSum}

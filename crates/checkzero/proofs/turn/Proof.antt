@@ -2,7 +2,6 @@ use mathlib.Core.Path.{subst}
 use borrow.Author.Needs.{needs}
 use Rattle.field.specs.Packed.{Holds}
 use Rattle.field.specs.Level.{levelAt, K}
-use Rattle.field.specs.declared.Level.{Level}
 use Rattle.constraints.specs.Graded.{pow}
 use Rattle.row.specs.Elements.{el, valueOf}
 use Rattle.checkzero.specs.CheckZero.{maskSum}

@@ -14,7 +14,7 @@
  *
  *     if (perk_verify(..) == PERK_ACCEPTED) ..       and not: if (perk_verify(..)) ..
  *
- * Any other number is a refusal, 1 to 12, 14 or 19, and then every output holds what it held before. Refusals are tried
+ * Any other number is a refusal, 1 to 12, 14, 16 or 19, and then every output holds what it held before. Refusals are tried
  * in the order in which a function lists them; the first that applies is the result. Sizes and lengths are decided before
  * any slice is read, so that a length in bytes for one in words is refused with 3; this is tested, and not part of the
  * proof.
@@ -29,7 +29,8 @@
  *
  * Positions. Position i says which entry of x becomes entry i: x'(i) = x(position i). Positions solve a key when they are
  * 0 to n - 1, each once, and H x', H times x in the order of the positions, equals y. For a key without a target lend m
- * zeros as y.
+ * zeros as y. A position below n is a column; one from n to 2^d - 1 is a spare code and names no entry of x; one from 2^d
+ * on is too large. perk_prove tells the three apart before any algebra: 16 and 7.
  *
  * Threads. The library has no state: no variable outlives a call, and any number of calls may run at the same time, as
  * long as no output of one is a slice of another. It takes no memory from the heap and calls no operating system.
@@ -49,9 +50,9 @@
 #include <stddef.h>
 #include <stdint.h>
 
-#define PERK_VERSION "0.3.0"
+#define PERK_VERSION "0.4.0"
 #define PERK_VERSION_MAJOR 0
-#define PERK_VERSION_MINOR 3
+#define PERK_VERSION_MINOR 4
 #define PERK_VERSION_PATCH 0
 
 /* results */
@@ -73,6 +74,7 @@
 #define PERK_FIELD_LENGTH 11 /* not a length that the field has for these sizes */
 #define PERK_BYTES_FOLLOW 12 /* bytes follow the last field */
 #define PERK_ZERO_TARGET 14  /* field 04 is present and all its elements are zero */
+#define PERK_SPARE_CODE 16   /* a position is a spare code, n to 2^d - 1, which names no column; none is 2^d or more */
 #define PERK_LONG_SERIAL 19  /* a serial of four bytes is below 65536, so that it fits two */
 
 /* d, for n from 2 to 64; a constant expression where n is one */
@@ -164,7 +166,7 @@ uint32_t perk_product(const uint16_t *a, size_t a_len, const uint16_t *b, size_t
  *   t            n d bytes, written: digit k of position i, highest first, exclusive-or u(i,k)
  *   polynomials  12 (n + m) (d + 1) words, written: polynomial 0 first, d + 1 coefficients each, that of X^0 first
  *
- * Positions from n to 2^d - 1 are taken. Refusals: 1, 2, 3 (all eight slices), 4 (h, x, y), 5 (u), 6 (v), 7.
+ * Spare codes, positions from n to 2^d - 1, are taken. Refusals: 1, 2, 3 (all eight slices), 4 (h, x, y), 5 (u), 6 (v), 7.
  *
  * Proved of what is written: the top coefficients of all n + m polynomials are zero exactly when the positions are
  * 0 to n - 1, each once, and H times x in that order is y; and wherever perk_values is given this key, this t, a
@@ -198,7 +200,7 @@ uint32_t perk_values(size_t n, size_t m, const uint16_t *h, size_t h_len, const 
  * and the weights alpha.
  *
  *   h            m n words       x            n words       y            m words
- *   positions    n bytes, each below 2^d
+ *   positions    n bytes, each below n
  *   u            n d bytes       v            12 n d words
  *   r, s         12 (d - 1) words each, none where n is 2
  *   alpha        12 (n + m) words
@@ -206,12 +208,14 @@ uint32_t perk_values(size_t n, size_t m, const uint16_t *h, size_t h_len, const 
  *   a            12 d words, written: the d coefficients below X^d, that of X^0 first, of the sum of alpha(j) times
  *                polynomial j plus the sum over k below d - 1 of X^k (s(k) X + r(k))
  *
- * Refusals: 1, 2, 3 (all eleven slices), 4 (h, x, y), 5 (u), 6 (v, r, s, alpha), 7, and then 8, found before anything
- * is written, whatever the weights are.
+ * Refusals: 1, 2, 3 (all eleven slices), 4 (h, x, y), 5 (u), 6 (v, r, s, alpha), 7 (a position is 2^d or more, wherever
+ * among spare codes it stands), 16 (a position is a spare code), and then 8, found before anything is written, whatever
+ * the weights are.
  *
- * Proved besides: past 1 to 7 the result is 0 exactly when the positions are 0 to n - 1, each once, and H times x in that
- * order is y, and 8 exactly when they are not; and wherever the result is 0, perk_verify accepts t and a with the same
- * key and weights, any challenge delta, each q(i,k) = u(i,k) delta + v(i,k) and each masks(k) = s(k) delta + r(k).
+ * Proved besides: past 1 to 7 the result is 16 exactly when a position is a spare code; past 1 to 7 and 16 it is 0 exactly
+ * when the positions are 0 to n - 1, each once, and H times x in that order is y, and 8 exactly when they are not; and
+ * wherever the result is 0, perk_verify accepts t and a with the same key and weights, any challenge delta, each
+ * q(i,k) = u(i,k) delta + v(i,k) and each masks(k) = s(k) delta + r(k).
  *
  * No jump and no address depends on positions, u, v, r or s, other than the decision to refuse; this is tested, and not
  * part of the proof. Stack: under 24 KiB.
@@ -323,6 +327,7 @@ static inline const char *perk_refusal_text(uint32_t number) {
     case PERK_FIELD_LENGTH: return "a field's length is not one stated for it";
     case PERK_BYTES_FOLLOW: return "bytes follow the last field";
     case PERK_ZERO_TARGET: return "field 04 is present and all its elements are zero";
+    case PERK_SPARE_CODE: return "a position is a spare code, n to 2^d - 1, which names no column";
     case PERK_LONG_SERIAL: return "a serial of four bytes is below 65536, so that it fits two";
     case PERK_REJECTED: return "rejected";
     default: return "no result of this library";

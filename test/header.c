@@ -123,6 +123,20 @@ static void wrong_targets(size_t n, size_t m) {
     expect("n, m and serial kept", n, m, kept[0] == 7 && kept[1] == 8 && kept[2] == 9 ? PERK_DONE : PERK_REJECTED, PERK_DONE);
 }
 
+/* the order 0, 1, .. with its last position changed: spare codes, which constraints takes, and one that is too large */
+static void codes(size_t n, size_t m) {
+    size_t most = (size_t)1 << PERK_DIGITS(n);
+    for (size_t last = n; last <= most; last++) {
+        positions[n - 1] = (uint8_t)last;
+        expect("21", n, m, perk_constraints(n, m, h, PERK_H_WORDS(n, m), x, PERK_X_WORDS(n), y, PERK_Y_WORDS(m), positions, PERK_POSITIONS_BYTES(n), u,
+               PERK_U_BYTES(n), v, PERK_V_WORDS(n), t, PERK_T_BYTES(n), polynomials, PERK_POLYNOMIALS_WORDS(n, m)), last < most ? PERK_DONE : PERK_POSITION);
+        expect("22", n, m, perk_prove(n, m, h, PERK_H_WORDS(n, m), x, PERK_X_WORDS(n), y, PERK_Y_WORDS(m), positions, PERK_POSITIONS_BYTES(n), u,
+               PERK_U_BYTES(n), v, PERK_V_WORDS(n), r, PERK_R_WORDS(n), s, PERK_S_WORDS(n), alpha, PERK_ALPHA_WORDS(n, m), t,
+               PERK_T_BYTES(n), a, PERK_A_WORDS(n)), last < most ? PERK_SPARE_CODE : PERK_POSITION);
+    }
+    positions[n - 1] = (uint8_t)(n - 1);
+}
+
 static void sizes(size_t n, size_t m) {
     static const uint32_t serials[] = {0, 1, 255, 256, 65535, 65536, 65537, 16777216, 4294967295};
     /* H and y are zero, so that the order 0, 1, .. solves the key */
@@ -143,6 +157,7 @@ static void sizes(size_t n, size_t m) {
     }
 
     wrong_targets(n, m);
+    codes(n, m);
 
     expect("5", n, m, perk_values(65, m, h, 0, x, 0, y, 0, t, 0, q, 0, delta, 0, values, 0), PERK_SIZE_N);
     expect("6", n, m, perk_values(n, n, h, 0, x, 0, y, 0, t, 0, q, 0, delta, 0, values, 0), PERK_SIZE_M);
@@ -172,10 +187,10 @@ static void material(void) {
            PERK_TOP);
 }
 
-/* each of 0 to 12, 14, 19 and 255 has a text, and no two the same; every other number has one text */
+/* each of 0 to 12, 14, 16, 19 and 255 has a text, and no two the same; every other number has one text */
 static void texts(void) {
-    static const uint32_t numbers[] = {0, 1, 2, 3, 4, 5, 6, 7, 8, 9, 10, 11, 12, 14, 19, 255, 13};
-    static const uint32_t others[] = {15, 16, 17, 18, 20, 254, 256, UINT32_MAX};
+    static const uint32_t numbers[] = {0, 1, 2, 3, 4, 5, 6, 7, 8, 9, 10, 11, 12, 14, 16, 19, 255, 13};
+    static const uint32_t others[] = {15, 17, 18, 20, 254, 256, UINT32_MAX};
     size_t count = sizeof numbers / sizeof *numbers;
     for (size_t i = 0; i < count; i++)
         for (size_t j = 0; j < i; j++)

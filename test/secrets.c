@@ -7,8 +7,9 @@
  * usage: secrets ENTRY N M SLICE CASE
  *   ENTRY  constraints or prove
  *   SLICE  positions, u, v, r or s: the one that is marked; or all
- *   CASE   plain; fault: the last element of the slice is too large; order: one position is there twice; spare: one position is n,
- *          below 2^d, so that in both the positions do not solve the key;
+ *   CASE   plain; fault: the last element of the slice is too large; order: one position is there twice, so that the positions do not
+ *          solve the key; spare: one position is n, below 2^d; bit: the last byte of u is 2, and the first position n or, where no
+ *          code is spare, 255;
  *          jump or index: before the call, a jump or an address that depends on the first byte of the slice
  */
 #include <stdint.h>
@@ -92,6 +93,10 @@ int main(int argc, char **argv) {
 
     if (strcmp(kind, "order") == 0) positions[0] = positions[1];
     if (strcmp(kind, "spare") == 0) positions[0] = (uint8_t)n;
+    if (strcmp(kind, "bit") == 0) {
+        u[bits - 1] = 2;
+        positions[0] = (uint8_t)(n >> d == 0 ? n : 255);
+    }
     struct { const char *name; uint8_t *start; size_t size; } secrets[] = {{"positions", positions, n},
                                                                            {"u", u, bits},
                                                                            {"v", (uint8_t *)v, 2 * W * bits},

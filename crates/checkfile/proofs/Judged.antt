@@ -1,6 +1,5 @@
 -- An accepted check file is judged by the verifier's equation alone, and one that is written by the data written.
 use mathlib.Core.Path.{_≡_, refl, sym, ap, ap₂, _∙_}
-use mathlib.Core.Bool.{true}
 use mathlib.Core.List.{List, [], _∷_}
 use Prim.Native.Nat.{ℕ}
 use native.Mathlib.Omega.{arith}
@@ -12,6 +11,7 @@ use Rattle.refusal.specs.declared.Answer.the-variants.{Done}
 use Rattle.refusal.specs.declared.Verdict.{Verdict}
 use Rattle.refusal.specs.declared.Verdict.the-variants as verdict
 use Rattle.field.specs.Level.{FIRST, levelAt}
+use Rattle.key.specs.declared.Code.the-variants.{Column}
 use Rattle.key.specs.Key.{lengths, keyWithin, below, withins}
 use Rattle.key.proofs.Checked.{checked-done}
 use Rattle.package.specs.declared.Contents.{Contents}
@@ -36,7 +36,7 @@ never-refused k g c v =
     let group = v .0 .1 in
     let check = v .1 in
     let fine : Long lent = (of .h .0, (of .x .0, (of .y .0, (group .t .0, (check .q .0, (check .delta .0, (check .masks .0, (check .alpha .0, (group .a .0, tt))))))))) in
-    checked-done l (k .sizes) (long lent) (keyWithin l (k .slices)) (below 1 (g .t)) (withins l (c .q ∷ c .delta ∷ c .masks ∷ c .alpha ∷ g .a ∷ [])) true (record {
+    checked-done l (k .sizes) (long lent) (keyWithin l (k .slices)) (below 1 (g .t)) (withins l (c .q ∷ c .delta ∷ c .masks ∷ c .alpha ∷ g .a ∷ [])) Column (record {
       is-sized = of .sized;
       slices-fine = long-each lent fine;
       elements-fine = rw (of .h .1, of .x .1, of .y .1);

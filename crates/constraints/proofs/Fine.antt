@@ -18,9 +18,11 @@ use Rattle.row.specs.Elements.{Fits, Words, Bits}
 use Rattle.row.specs.Lent.{LentKey, LentTarget}
 use Rattle.key.specs.declared.Key.{Key}
 use Rattle.key.specs.declared.Lengths.{Lengths}
-use Rattle.key.specs.Key.{degree, KeySlices, lengths, Sized, keyWithin, below, withins}
+use Rattle.key.specs.declared.Code.the-variants.{Column}
+use Rattle.key.specs.Key.{degree, KeySlices, lengths, Sized, keyWithin, below, codesOf, withins}
 use Rattle.key.proofs.Sized.{degree-fits, degree-lt}
 use Rattle.key.proofs.Fine.{below-lt, each-within}
+use Rattle.key.proofs.Codes.{codes-lt}
 use Rattle.key.proofs.Checked.{checked}
 use Rattle.constraints.specs.Entry.{constraintsLent, constraintsRows, valuesLent, valuesRows}
 
@@ -97,7 +99,7 @@ module _ (number : ℕ) (key : Key) where
 
   pub constraints-fine : (lent : KeySlices) (positions u v t p : List ℕ) → firstOf (constraintsRows l key lent positions u v t p) ≡ Done → ConstraintsFine lent positions u v t p
   constraints-fine lent positions u v t p e =
-      let c = checked l key (long (constraintsLent len lent positions u v t p)) (keyWithin l lent) (below 1 u) (withins l (v ∷ [])) (below (degree (key .n)) positions) e in
+      let c = checked l key (long (constraintsLent len lent positions u v t p)) (keyWithin l lent) (below 1 u) (withins l (v ∷ [])) (codesOf (key .n) positions) e in
       let s = each-long (constraintsLent len lent positions u v t p) (c .slices-fine) in
       record {
         is-sized = c .is-sized;
@@ -110,7 +112,7 @@ module _ (number : ℕ) (key : Key) where
         p-length = s .1 .1 .1 .1 .1 .1 .1 .0;
         u-bits = below-lt 1 u (c .bits-fine);
         v-words = words-lt v (each-within l (v ∷ []) (c .coordinates-fine) .0);
-        positions-lt = below-lt (degree (key .n)) positions (c .positions-fine);
+        positions-lt = codes-lt (key .n) (degree-fits (key .n) (omega (arith, c .is-sized .most, bounded number .most))) positions (c .positions-fine);
       }
 
   pub record ValuesFine (lent : KeySlices) (t q Δ p : List ℕ) : Type 0 where
@@ -127,7 +129,7 @@ module _ (number : ℕ) (key : Key) where
 
   pub values-fine : (lent : KeySlices) (t q Δ p : List ℕ) → firstOf (valuesRows l key lent t q Δ p) ≡ Done → ValuesFine lent t q Δ p
   values-fine lent t q Δ p e =
-      let c = checked l key (long (valuesLent len lent t q Δ p)) (keyWithin l lent) (below 1 t) (withins l (q ∷ Δ ∷ [])) true e in
+      let c = checked l key (long (valuesLent len lent t q Δ p)) (keyWithin l lent) (below 1 t) (withins l (q ∷ Δ ∷ [])) Column e in
       let s = each-long (valuesLent len lent t q Δ p) (c .slices-fine) in
       let f = each-within l (q ∷ Δ ∷ []) (c .coordinates-fine) in
       record {

@@ -1,5 +1,5 @@
 -- What the entries constraints and values answer and write.
-use mathlib.Core.Bool.{Bool, true}
+use mathlib.Core.Bool.{Bool}
 use mathlib.Core.List.{List, [], _∷_, _++_}
 use Prim.Native.Nat.{ℕ}
 use Rattle.lists.specs.Lent.{long}
@@ -9,7 +9,8 @@ use Rattle.field.specs.declared.Level.{Level}
 use Rattle.field.specs.Level.{K}
 use Rattle.key.specs.declared.Key.{Key}
 use Rattle.key.specs.declared.Lengths.{Lengths}
-use Rattle.key.specs.Key.{degree, KeySlices, lengths, sizes, keyLent, keyWithin, below, withins, checks}
+use Rattle.key.specs.declared.Code.the-variants.{Column}
+use Rattle.key.specs.Key.{KeySlices, lengths, sizes, keyLent, keyWithin, below, codesOf, withins, checks}
 use Rattle.constraints.specs.System.{System}
 use Rattle.constraints.specs.Slices.{maskedBytes, polynomialWords, valueWords, systemOf, witnessOf}
 
@@ -27,10 +28,10 @@ module _ (l : Level) (key : Key) where
 
   -- the refusals of each, in order
   abbrev pub constraintsRows : KeySlices → (positions u v t p : List ℕ) → List (Bool × ℕ)
-  constraintsRows lent positions u v t p = sizes l key ++ checks (long (constraintsLent (lengths l key) lent positions u v t p)) (keyWithin l lent) (below 1 u) (withins l (v ∷ [])) (below (degree (key .n)) positions)
+  constraintsRows lent positions u v t p = sizes l key ++ checks (long (constraintsLent (lengths l key) lent positions u v t p)) (keyWithin l lent) (below 1 u) (withins l (v ∷ [])) (codesOf (key .n) positions)
 
   abbrev pub valuesRows : KeySlices → (t q Δ p : List ℕ) → List (Bool × ℕ)
-  valuesRows lent t q Δ p = sizes l key ++ checks (long (valuesLent (lengths l key) lent t q Δ p)) (keyWithin l lent) (below 1 t) (withins l (q ∷ Δ ∷ [])) true
+  valuesRows lent t q Δ p = sizes l key ++ checks (long (valuesLent (lengths l key) lent t q Δ p)) (keyWithin l lent) (below 1 t) (withins l (q ∷ Δ ∷ [])) Column
 
   -- t and the polynomials, as they are left
   unfoldable pub constraintsOutcome : KeySlices → (positions u v t p : List ℕ) → Answer × (List ℕ × List ℕ)

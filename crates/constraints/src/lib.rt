@@ -13,6 +13,7 @@ ghost use Rattle.refusal.specs.declared.Answer.the-variants.{Done};
 ghost use Rattle.constraints.specs.Slices.{maskedBytes, polynomialWords, valueWords, witnessOf};
 ghost use Rattle.constraints.specs.Truth.{Truth};
 use field::FIRST;
+use key::Code;
 use key::Key;
 use refusal::Answer;
 use refusal::Refusal;
@@ -67,13 +68,9 @@ fn constraints_refused(
         return Answer::Refused(Refusal::SLICE_LENGTH);
     }
     let elements = key::excess(h, x, y, FIRST);
-    let positions = key::over(positions, key.degree());
-    key::contents(
-        elements,
-        key::over(u, 1),
-        field::excess(v, FIRST),
-        positions,
-    )
+    // Spare codes are taken: what is left of their number is that of a column.
+    let code = key.codes(positions) & Code::TOO_LARGE;
+    key::contents(elements, key::over(u, 1), field::excess(v, FIRST), code)
 }
 
 // Zero exactly when each slice of values has its length.
@@ -119,7 +116,7 @@ fn values_refused(
     }
     let elements = key::excess(h, x, y, FIRST);
     let coordinates = field::excess(q, FIRST) | field::excess(delta, FIRST);
-    key::contents(elements, key::over(t, 1), coordinates, 0)
+    key::contents(elements, key::over(t, 1), coordinates, Code::COLUMN)
 }
 
 // Writes the masked witness.

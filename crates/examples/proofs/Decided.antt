@@ -1,4 +1,4 @@
--- What prove answers and leaves for a key in bare numbers; for n = 3 and positions 0 1 3, it answers 8.
+-- What prove answers and leaves for a key in bare numbers; for n = 3 and positions 0 1 3, it answers 16.
 use mathlib.Core.Path.{_≡_, refl}
 use mathlib.Core.List.{List, [], _∷_, _++_}
 use Prim.Native.Nat.{ℕ}
@@ -11,11 +11,10 @@ use Rattle.refusal.specs.declared.Answer.the-variants.{Done}
 use Rattle.refusal.proofs.Answers.{result-of}
 use Rattle.field.specs.Level.{FIRST, first, levelAt}
 use Rattle.field.specs.Word.{within}
-use Rattle.key.specs.Key.{degree, lengths, below}
-use Rattle.constraints.specs.Order.{count}
-use Rattle.prover.specs.Entry.{proveRows, topsRow, proveResult, proveOutcome}
-use Rattle.prover.specs.Solved.{SolvesKey}
-use Rattle.prover.proofs.Solved.{solved}
+use Rattle.key.specs.Key.{degree, lengths, below, codeOf, codesOf}
+use Rattle.prover.specs.Entry.{rowsTo7, proveRows, topsRow, proveResult, proveOutcome}
+use Rattle.prover.specs.Solved.{SolvesKey, HasSpare}
+use Rattle.prover.proofs.Solved.{solved, passes}
 use Rattle.examples.specs.Starred.{bares, Numbers, sizes, proveOf, three}
 
 module _ (key : Numbers) where
@@ -31,30 +30,32 @@ module _ (key : Numbers) (positions : List ℕ) where
 
   -- none of refusals 1 to 7 applies
   abbrev pub Passes : Type 0
-  Passes = firstOf (proveRows first (sizes key) lent positions u (bares v) (bares r) (bares s) (bares α) (t₀ key) (a₀ key)) ≡ Done
+  Passes = firstOf (rowsTo7 first (sizes key) lent positions u (bares v) (bares r) (bares s) (bares α) (t₀ key) (a₀ key)) ≡ Done
+
+  -- nor 16
+  abbrev pub PassesAll : Type 0
+  PassesAll = firstOf (proveRows first (sizes key) lent positions u (bares v) (bares r) (bares s) (bares α) (t₀ key) (a₀ key)) ≡ Done
 
   abbrev pub Solving : Type 0
   Solving = SolvesKey first (sizes key) lent positions
 
   pub answers-done : Passes → Solving → proveOf key positions .0 ≡ Done
   unfolding proveOf proveOutcome levelAt
-  answers-done e p = solved FIRST (sizes key) lent positions u (bares v) (bares r) (bares s) (bares α) (t₀ key) (a₀ key) refl .done .1 (e, p)
+  answers-done e p = solved FIRST (sizes key) lent positions u (bares v) (bares r) (bares s) (bares α) (t₀ key) (a₀ key) refl .done .1 (passes FIRST (sizes key) lent positions u (bares v) (bares r) (bares s) (bares α) (t₀ key) (a₀ key) e p, p)
 
-  pub answers-8 : Passes → (Solving → ⊥) → proveOf key positions .0 ≡ refusal 8
+  pub answers-8 : PassesAll → (Solving → ⊥) → proveOf key positions .0 ≡ refusal 8
   unfolding proveOf proveOutcome levelAt
   answers-8 e p = solved FIRST (sizes key) lent positions u (bares v) (bares r) (bares s) (bares α) (t₀ key) (a₀ key) refl .eight .1 (e, p)
+
+  pub answers-16 : Passes → HasSpare (sizes key .n) positions → proveOf key positions .0 ≡ refusal 16
+  unfolding proveOf proveOutcome levelAt
+  answers-16 e p = solved FIRST (sizes key) lent positions u (bares v) (bares r) (bares s) (bares α) (t₀ key) (a₀ key) refl .sixteen .1 (e, p)
 
   pub left : proveOf key positions .0 ≡ Done → proveOf key positions .1 ≡ proveResult first (sizes key) lent positions u (bares v) (bares r) (bares s) (bares α)
   unfolding proveOf proveOutcome
   left e = result-of (proveRows first (sizes key) lent positions u (bares v) (bares r) (bares s) (bares α) (t₀ key) (a₀ key) ++ topsRow first (sizes key) lent positions (bares v))
       (proveResult first (sizes key) lent positions u (bares v) (bares r) (bares s) (bares α)) (t₀ key, a₀ key) refl e
 
--- none of the positions 0 1 3 is 2
-pub three-8 : proveOf three (0 ∷ 1 ∷ 3 ∷ []) .0 ≡ refusal 8
-three-8 = answers-8 three (0 ∷ 1 ∷ 3 ∷ []) passes unsolved
-  where
-    passes : Passes three (0 ∷ 1 ∷ 3 ∷ [])
-    passes = unfold bares degree leadingZeros below within all in refl
-
-    unsolved : Solving three (0 ∷ 1 ∷ 3 ∷ []) → ⊥
-    unsolved p = let z : _≡_ {A = ℕ} 0 1 = unfold count in p .0 2 (omega arith) in omega arith
+-- position 2 is a spare code
+pub three-16 : proveOf three (0 ∷ 1 ∷ 3 ∷ []) .0 ≡ refusal 16
+three-16 = answers-16 three (0 ∷ 1 ∷ 3 ∷ []) (unfold bares degree leadingZeros below codesOf codeOf within all in refl) (2, omega arith, unfold codeOf degree leadingZeros in refl)

@@ -15,7 +15,7 @@ use Rattle.field.specs.Quotient.{rule, timesX, horner, times}
 use Rattle.field.specs.Level.{first, levelAt, F, K, embed}
 use Rattle.field.specs.Word.{digits, number, vector, small, word, element, within}
 use Rattle.field.proofs.Fields.{embed-injective}
-use Rattle.key.specs.Key.{degree, below}
+use Rattle.key.specs.Key.{degree, below, codeOf, codesOf}
 use Rattle.constraints.specs.Graded.{summed, product, power, pow, coefficient, eval, raised, linearTimes}
 use Rattle.constraints.specs.System.{masked, polynomial, Honest}
 use Rattle.constraints.specs.Digits.{digitIn, witness, factor, z, column, x′, row, join, constraint}
@@ -48,7 +48,7 @@ abbrev masks : List ℕ
 masks = bares []
 
 passes : Passes A positions
-unfolding bares degree leadingZeros below within all
+unfolding bares degree leadingZeros below codesOf codeOf within all
 passes = refl
 
 order : Order 2 (positionAt positions)

@@ -1,11 +1,11 @@
--- d and digits are as the specification says.
+-- d, digits and spare codes are as the specification says.
 use mathlib.Core.Path.{_≡_, refl, ap}
 use Prim.Native.Nat.{ℕ, suc, _-_, _*_, _^_, _≤_, _<_}
 use native.Mathlib.Decide.{decLt}
 use native.Mathlib.Nat.{pow-suc}
 use native.Mathlib.Omega.{arith}
 use lib.Count.{leadingZeros}
-use Rattle.key.specs.Key.{degree}
+use Rattle.key.specs.Key.{degree, codeOf, codesOf}
 use Rattle.key.proofs.Sized.{degree-fits, degree-lt, degree-some}
 use Rattle.constraints.specs.Digits.{digitIn}
 use Rattle.examples.specs.Readings.{Readings}
@@ -30,4 +30,9 @@ readings = record {
   fewest = above;
   enough = degree-fits;
   written = unfold digitIn in refl;
+  columns = unfold codesOf codeOf degree leadingZeros in refl;
+  spare = unfold codeOf degree leadingZeros in refl;
+  too-large = unfold codeOf degree leadingZeros in refl;
+  highest = unfold codesOf codeOf degree leadingZeros in refl;
+  none-spare = unfold codeOf degree leadingZeros in refl;
 }

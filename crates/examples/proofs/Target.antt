@@ -11,7 +11,7 @@ use Rattle.field.specs.Vector.{zeros as 𝟘s, unit, sum, scale, push, top}
 use Rattle.field.specs.Quotient.{rule, timesX, horner, times}
 use Rattle.field.specs.Level.{first, F}
 use Rattle.field.specs.Word.{digits, number, vector, small, word, within}
-use Rattle.key.specs.Key.{degree, below}
+use Rattle.key.specs.Key.{degree, below, codeOf, codesOf}
 use Rattle.constraints.specs.Graded.{summed, product, power, coefficient, raised, linearTimes}
 use Rattle.constraints.specs.System.{masked, polynomial, value}
 use Rattle.constraints.specs.Digits.{digitIn, witness, factor, z, column, x′, row, join, constraint}
@@ -21,7 +21,7 @@ use Rattle.checkzero.specs.CheckZero.{mask, weighted, f, proof}
 use Rattle.examples.specs.Starred.{Example, bares, tOf, proveOf}
 use Rattle.examples.specs.Target.{A₅, targets}
 use Rattle.examples.proofs.Carried.{numbersAt, polynomials-carried, values-carried, proof-carried}
-use Rattle.examples.proofs.Decided.{Passes, Solving, answers-done, answers-8, left}
+use Rattle.examples.proofs.Decided.{Passes, PassesAll, Solving, answers-done, answers-8, left}
 
 solves : Solves (keyOf first 2 1 (A₅ .lent)) (positionAt (1 ∷ 0 ∷ []))
 unfolding summed smallAt small digits F times horner timesX rule 𝟘s unit sum scale push top
@@ -38,7 +38,7 @@ done : proveOf A₅ (1 ∷ 0 ∷ []) .0 ≡ Done
 done = answers-done A₅ (1 ∷ 0 ∷ []) passes (order, solves)
   where
     passes : Passes A₅ (1 ∷ 0 ∷ [])
-    passes = unfold bares degree leadingZeros below within all in refl
+    passes = unfold bares degree leadingZeros below codesOf codeOf within all in refl
 
 proof-left : proveOf A₅ (1 ∷ 0 ∷ []) .1 .1 ≡ bares (5 ∷ [])
 proof-left = ap (λ (p : List ℕ × List ℕ). p .1) (left A₅ (1 ∷ 0 ∷ []) done) ∙ proof-carried A₅ (1 ∷ 0 ∷ [])
@@ -49,8 +49,8 @@ proof-left = ap (λ (p : List ℕ × List ℕ). p .1) (left A₅ (1 ∷ 0 ∷ []
 other-8 : proveOf A₅ (0 ∷ 1 ∷ []) .0 ≡ refusal 8
 other-8 = answers-8 A₅ (0 ∷ 1 ∷ []) passes unsolved
   where
-    passes : Passes A₅ (0 ∷ 1 ∷ [])
-    passes = unfold bares degree leadingZeros below within all in refl
+    passes : PassesAll A₅ (0 ∷ 1 ∷ [])
+    passes = unfold bares degree leadingZeros below codesOf codeOf within all in refl
 
     differ : word first (small first 0) ≡ word first (small first 5) → ⊥
     differ e = unfold word small digits number F in omega (arith, e)

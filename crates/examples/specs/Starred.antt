@@ -118,7 +118,7 @@ starred =
     ∷ record { given = verdictNumber (verdictOf A (1 ∷ 1 ∷ []) (3 ∷ 4 ∷ []) 2 [] (4 ∷ [])) ∷ []; stated = 255 ∷ [] }
     -- "n = 3, positions 1 1 1": "column tops 1, 0, 1"
     ∷ record { given = columnTops three (1 ∷ 1 ∷ 1 ∷ []); stated = bares (1 ∷ 0 ∷ 1 ∷ []) }
-    -- "n = 3, positions 0 1 3": "column tops 0, 0, 1; prove answers 8"
+    -- "n = 3, positions 0 1 3": "column tops 0, 0, 1"; "the example 0 1 3 now answers 16"
     ∷ record { given = columnTops three (0 ∷ 1 ∷ 3 ∷ []); stated = bares (0 ∷ 0 ∷ 1 ∷ []) }
-    ∷ record { given = numberOf (proveOf three (0 ∷ 1 ∷ 3 ∷ []) .0) ∷ []; stated = 8 ∷ [] }
+    ∷ record { given = numberOf (proveOf three (0 ∷ 1 ∷ 3 ∷ []) .0) ∷ []; stated = 16 ∷ [] }
     ∷ []

@@ -1,3 +1,4 @@
 pub mod Sized
+pub mod Codes
 pub mod Fine
 pub mod Checked

@@ -1,7 +1,7 @@
 -- The key: its sizes, d, and when it is well formed.
-use mathlib.Core.Bool.{Bool, true, not, _&&_}
+use mathlib.Core.Bool.{Bool, true, false, not, cond, _&&_}
 use mathlib.Core.List.{List, [], _∷_}
-use Prim.Native.Nat.{ℕ, _+_, _-_, _*_, _^_, _≤_, _<_}
+use Prim.Native.Nat.{ℕ, zero, suc, _+_, _-_, _*_, _^_, _≤_, _<_}
 use lib.Count.{leadingZeros}
 use lib.Dec.{leb, ltb, eqb}
 use Rattle.field.specs.declared.Level.{Level}
@@ -9,6 +9,8 @@ use Rattle.field.specs.Word.{within}
 use Rattle.lists.specs.Words.{all}
 use Rattle.key.specs.declared.Key.{Key}
 use Rattle.key.specs.declared.Lengths.{Lengths}
+use Rattle.key.specs.declared.Code.{Code}
+use Rattle.key.specs.declared.Code.the-variants.{Column, Spare, TooLarge}
 
 -- "d is the number of binary digits of n - 1", of a number n below 2^64
 unfoldable pub degree : ℕ → ℕ
@@ -78,11 +80,56 @@ keyWithin l k = withins l (k .h ∷ k .x ∷ k .y ∷ [])
 unfoldable pub below : ℕ → List ℕ → Bool
 below k s = all (λ b. ltb b (2 ^ k)) s
 
--- places 'key' and 'material', a row for each number; of each whether it is in order: 4 "an element of H or x is above 2047", or of y,
--- 5 "a byte of u or t is above 1", 6 "a coordinate of an element of K is above 2047", 7 "a position is 2^d or more"
-abbrev pub contents : (key bits coordinates positions : Bool) → List (Bool × ℕ)
-contents key bits coordinates positions = (not key, 4) ∷ (not bits, 5) ∷ (not coordinates, 6) ∷ (not positions, 7) ∷ []
+-- what a position is: "a column (below n), a spare code (n to 2^d - 1), or too large"
+unfoldable pub codeOf : (n position : ℕ) → Code
+codeOf n position = cond (ltb position n) Column (cond (ltb position (2 ^ degree n)) Spare TooLarge)
+
+-- the number of each case
+abbrev pub codeNumber : Code → ℕ
+codeNumber Column = 0
+codeNumber Spare = 1
+codeNumber TooLarge = 2
+
+-- and the case of each number
+abbrev pub codeAt : ℕ → Code
+codeAt zero = Column
+codeAt (suc zero) = Spare
+codeAt (suc (suc k)) = TooLarge
+
+-- of two cases the one with the higher number
+abbrev pub higher : Code → Code → Code
+higher Column c = c
+higher Spare Column = Spare
+higher Spare Spare = Spare
+higher Spare TooLarge = TooLarge
+higher TooLarge c = TooLarge
+
+-- what positions are together: too large where one is, otherwise spare codes where one is, otherwise columns
+unfoldable pub codesOf : ℕ → List ℕ → Code
+codesOf n [] = Column
+codesOf n (position ∷ others) = higher (codeOf n position) (codesOf n others)
+
+-- whether it is this case
+abbrev pub isSpare : Code → Bool
+isSpare Column = false
+isSpare Spare = true
+isSpare TooLarge = false
+
+abbrev pub isTooLarge : Code → Bool
+isTooLarge Column = false
+isTooLarge Spare = false
+isTooLarge TooLarge = true
+
+-- places 'key' and 'material', a row for each number; of words and bytes whether they are in order, of positions what they are: 4 "an element of
+-- H or x is above 2047", or of y, 5 "a byte of u or t is above 1", 6 "a coordinate of an element of K is above 2047", 7 "a position is
+-- 2^d or more". "Constraints still takes spare codes": none of these rows applies to them
+abbrev pub contents : (key bits coordinates : Bool) (positions : Code) → List (Bool × ℕ)
+contents key bits coordinates positions = (not key, 4) ∷ (not bits, 5) ∷ (not coordinates, 6) ∷ (isTooLarge positions, 7) ∷ []
 
 -- and place 'slices' before them: 3 "a lent slice isn't of its stated length"
-abbrev pub checks : (slices key bits coordinates positions : Bool) → List (Bool × ℕ)
+abbrev pub checks : (slices key bits coordinates : Bool) (positions : Code) → List (Bool × ℕ)
 checks slices key bits coordinates positions = (not slices, 3) ∷ contents key bits coordinates positions
+
+-- 16 "when prove is lent a spare code and none is too large, after 7"
+abbrev pub spareRow : (positions : Code) → List (Bool × ℕ)
+spareRow positions = (isSpare positions, 16) ∷ []

@@ -1,10 +1,11 @@
-// The key of the specification: its sizes and d, and the refusals that concern it.
+// The key of the specification: its sizes and d, the positions of a prover, and the refusals that concern them.
 ghost use mathlib.Core.Path.{_≡_};
+ghost use mathlib.Core.List.{_++_};
 ghost use Prim.Native.Nat.{_+_, _≤_, _<_};
-ghost use lib.Dec.{eqb};
+ghost use lib.Dec.{ltb, eqb};
 ghost use Rattle.refusal.specs.Answer.{firstOf};
 ghost use Rattle.field.specs.Level.{levelAt};
-ghost use Rattle.key.specs.Key.{degree, lengths, sizes, Sized, below, keySlices, keyWithin, contents};
+ghost use Rattle.key.specs.Key.{degree, lengths, sizes, Sized, below, codesOf, codeNumber, codeAt, keySlices, keyWithin, contents, spareRow};
 use field::Level;
 use refusal::Answer;
 use refusal::Refusal;
@@ -13,6 +14,13 @@ use refusal::Refusal;
 pub struct Key {
     pub n: usize,
     pub m: usize,
+}
+
+// What a position is: a column, below n; a spare code, from n to 2^d - 1; or too large.
+pub enum Code {
+    Column,
+    Spare,
+    TooLarge,
 }
 
 // The lengths of lent slices, in bytes or words: H, x, y, positions, bits, elements of K for the correlations, all polynomials,
@@ -88,6 +96,53 @@ impl Key {
         }
         Answer::Done
     }
+
+    // The number of the positions' case, the highest among theirs. The ninth digits of all are joined, so that no branch and no index depends
+    // on a position.
+    pub fn codes(self, positions: &[u8]) -> u8
+        requires { ⌜ (1 ≤ self .n) × (self .n ≤ 256) ⌝ }
+        ensures { λ r. ⌜ r ≡ codeNumber (codesOf (self .n) (now (positions .entry))) ⌝ }
+    {
+        let n = self.n;
+        let power = 1usize << self.degree();
+        let mut no_column: u16 = 0;
+        let mut no_code: u16 = 0;
+        let mut i: usize = 0;
+        while i < positions.len() {
+            no_column = no_column | reach(positions[i], n);
+            no_code = no_code | reach(positions[i], power);
+            i += 1;
+        }
+        ((no_column >> 8) + (no_code >> 8)) as u8
+    }
+}
+
+// The position and what the limit lacks to 256: it has a ninth digit exactly when the position is the limit or more.
+fn reach(position: u8, limit: usize) -> u16
+    requires { ⌜ limit ≤ 256 ⌝ }
+    ensures { λ r. ⌜ (r < 512) × (ltb r 256 ≡ ltb position limit) ⌝ }
+{
+    position as u16 + (256 - limit) as u16
+}
+
+impl Code {
+    // The numbers of the cases Column and TooLarge.
+    pub const COLUMN: u8 = 0;
+
+    pub const TOO_LARGE: u8 = 2;
+
+    // The case with this number.
+    pub fn of(number: u8) -> Code
+        ensures { λ r. ⌜ r ≡ codeAt number ⌝ }
+    {
+        if 1 < number {
+            return Code::TooLarge;
+        }
+        if number == 1 {
+            return Code::Spare;
+        }
+        Code::Column
+    }
 }
 
 // Zero exactly when every byte of s is below 2^digits.
@@ -111,9 +166,10 @@ pub fn excess(h: &[u16], x: &[u16], y: &[u16], level: usize) -> u16
     field::excess(h, level) | (field::excess(x, level) | field::excess(y, level))
 }
 
-// The first of refusals 4 to 7 that applies; each is told by a number that is zero where it does not.
+// The first of refusals 4 to 7 and 16 that applies. Of 4 to 6 each is told by a number that is zero where it does not, 7 and 16 by the number of
+// the positions' case, which decides nothing where one of these applies.
 pub fn contents(elements: u16, bits: u8, coordinates: u16, positions: u8) -> Answer
-    ensures { λ r. ⌜ r ≡ firstOf (contents (eqb elements 0) (eqb bits 0) (eqb coordinates 0) (eqb positions 0)) ⌝ }
+    ensures { λ r. ⌜ r ≡ firstOf (contents (eqb elements 0) (eqb bits 0) (eqb coordinates 0) (codeAt positions) ++ spareRow (codeAt positions)) ⌝ }
 {
     if elements != 0 {
         return Answer::Refused(Refusal::KEY_ELEMENT);
@@ -124,8 +180,9 @@ pub fn contents(elements: u16, bits: u8, coordinates: u16, positions: u8) -> Ans
     if coordinates != 0 {
         return Answer::Refused(Refusal::COORDINATE);
     }
-    if positions != 0 {
-        return Answer::Refused(Refusal::POSITION);
+    match Code::of(positions) {
+        Code::TooLarge => Answer::Refused(Refusal::POSITION),
+        Code::Spare => Answer::Refused(Refusal::SPARE_CODE),
+        Code::Column => Answer::Done,
     }
-    Answer::Done
 }

@@ -91,7 +91,7 @@ pub extern "C" fn perk_prove(
     a: &mut [u16],
 ) -> u32
     ensures outcome { λ o. ⌜ (o, (now (t .exit), now (a .exit))) ≡ numbered (proveOutcome (levelAt FIRST) (record { n = n; m = m }) (keySlices (now (h .entry)) (now (x .entry)) (now (y .entry))) (now (positions .entry)) (now (u .entry)) (now (v .entry)) (now (r .entry)) (now (s .entry)) (now (alpha .entry)) (now (t .entry)) (now (a .entry))) ⌝ }
-    ensures solved { λ o. ⌜ Solved (levelAt FIRST) (record { n = n; m = m }) (keySlices (now (h .entry)) (now (x .entry)) (now (y .entry))) (now (positions .entry)) (now (u .entry)) (now (v .entry)) (now (r .entry)) (now (s .entry)) (now (alpha .entry)) (now (t .entry)) (now (a .entry)) (o ≡ 0) (o ≡ 8) ⌝ }
+    ensures solved { λ o. ⌜ Solved (levelAt FIRST) (record { n = n; m = m }) (keySlices (now (h .entry)) (now (x .entry)) (now (y .entry))) (now (positions .entry)) (now (u .entry)) (now (v .entry)) (now (r .entry)) (now (s .entry)) (now (alpha .entry)) (now (t .entry)) (now (a .entry)) (o ≡ 0) (o ≡ 8) (o ≡ 16) ⌝ }
 {
     let key = Key { n, m };
     refusal::number(prover::prove(key, h, x, y, positions, u, v, r, s, alpha, t, a))

@@ -1,5 +1,6 @@
 -- What holds of the slices lent to prove where none of refusals 1 to 7 applies.
 use mathlib.Core.Path.{_≡_}
+use mathlib.Core.Bool.{false}
 use mathlib.Core.List.{List, [], _∷_}
 use Prim.Native.Nat.{ℕ, _+_, _^_, _≤_, _<_}
 use native.Mathlib.Nat.{mul-le-mul}
@@ -9,18 +10,21 @@ use Rattle.lists.specs.Lent.{long}
 use Rattle.lists.proofs.Lent.{each-long}
 use Rattle.refusal.specs.Answer.{firstOf}
 use Rattle.refusal.specs.declared.Answer.the-variants.{Done}
+use Rattle.refusal.proofs.Answers.{both-done}
 use Rattle.field.specs.declared.Level.{Level}
 use Rattle.field.specs.Level.{FIRST, levelAt}
-use Rattle.field.proofs.Fields.{first-most, first-narrow}
+use Rattle.field.proofs.Fields.{bounded, first-most, first-narrow}
 use Rattle.row.specs.Elements.{Words, Bits, Fits}
 use Rattle.row.specs.Lent.{LentKey, LentTarget}
 use Rattle.key.specs.declared.Key.{Key}
 use Rattle.key.specs.declared.Lengths.{Lengths}
-use Rattle.key.specs.Key.{degree, KeySlices, lengths, Sized, keyWithin, below, withins}
+use Rattle.key.specs.Key.{degree, KeySlices, lengths, Sized, keyWithin, below, codesOf, isTooLarge, withins, spareRow}
+use Rattle.key.proofs.Sized.{degree-fits}
 use Rattle.key.proofs.Fine.{below-lt, each-within}
+use Rattle.key.proofs.Codes.{codes-lt}
 use Rattle.key.proofs.Checked.{checked}
 use Rattle.constraints.proofs.Fine.{words-lt, lent-key, lent-target}
-use Rattle.prover.specs.Entry.{proveLent, proveRows}
+use Rattle.prover.specs.Entry.{proveLent, rowsTo7, proveRows}
 
 module _ (number : ℕ) (key : Key) where
   abbrev l : Level
@@ -46,11 +50,12 @@ module _ (number : ℕ) (key : Key) where
     pub r-words : Words l r
     pub s-words : Words l s
     pub α-words : Words l α
+    pub none-large : isTooLarge (codesOf (key .n) positions) ≡ false
     pub positions-lt : (i : ℕ) → getD positions i 0 < 2 ^ degree (key .n)
 
-  pub prove-fine : (lent : KeySlices) (positions u v r s α t a : List ℕ) → firstOf (proveRows l key lent positions u v r s α t a) ≡ Done → ProveFine lent positions u v r s α t a
+  pub prove-fine : (lent : KeySlices) (positions u v r s α t a : List ℕ) → firstOf (rowsTo7 l key lent positions u v r s α t a) ≡ Done → ProveFine lent positions u v r s α t a
   prove-fine lent positions u v r s α t a e =
-      let c = checked l key (long (proveLent len lent positions u v r s α t a)) (keyWithin l lent) (below 1 u) (withins l (v ∷ r ∷ s ∷ α ∷ [])) (below (degree (key .n)) positions) e in
+      let c = checked l key (long (proveLent len lent positions u v r s α t a)) (keyWithin l lent) (below 1 u) (withins l (v ∷ r ∷ s ∷ α ∷ [])) (codesOf (key .n) positions) e in
       let b = each-long (proveLent len lent positions u v r s α t a) (c .slices-fine) in
       let f = each-within l (v ∷ r ∷ s ∷ α ∷ []) (c .coordinates-fine) in
       record {
@@ -70,8 +75,13 @@ module _ (number : ℕ) (key : Key) where
         r-words = words-lt number key r (f .1 .0);
         s-words = words-lt number key s (f .1 .1 .0);
         α-words = words-lt number key α (f .1 .1 .1 .0);
-        positions-lt = below-lt (degree (key .n)) positions (c .positions-fine);
+        none-large = c .positions-fine;
+        positions-lt = codes-lt (key .n) (degree-fits (key .n) (omega (arith, c .is-sized .most, bounded number .most))) positions (c .positions-fine);
       }
+
+  -- the same where 16 does not apply either
+  pub passed-fine : (lent : KeySlices) (positions u v r s α t a : List ℕ) → firstOf (proveRows l key lent positions u v r s α t a) ≡ Done → ProveFine lent positions u v r s α t a
+  passed-fine lent positions u v r s α t a e = prove-fine lent positions u v r s α t a (both-done (rowsTo7 l key lent positions u v r s α t a) (spareRow (codesOf (key .n) positions)) e .0)
 
 -- the room for n + m elements
 pub elements-room : (key : Key) → Sized (levelAt FIRST) key → Fits (levelAt FIRST) (key .n + key .m) 1524

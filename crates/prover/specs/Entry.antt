@@ -8,7 +8,7 @@ use Rattle.refusal.specs.declared.Answer.{Answer}
 use Rattle.field.specs.declared.Level.{Level}
 use Rattle.key.specs.declared.Key.{Key}
 use Rattle.key.specs.declared.Lengths.{Lengths}
-use Rattle.key.specs.Key.{degree, KeySlices, lengths, sizes, keyLent, keyWithin, below, withins, checks}
+use Rattle.key.specs.Key.{KeySlices, lengths, sizes, keyLent, keyWithin, below, codesOf, withins, checks, spareRow}
 use Rattle.constraints.specs.Entry.{system}
 use Rattle.constraints.specs.Slices.{maskedBytes, witnessOf}
 use Rattle.checkzero.specs.Slices.{topsZero, proofWords}
@@ -29,9 +29,13 @@ proveLent len lent positions u v r s α t a =
 
 module _ (l : Level) (key : Key) where
   -- refusals 1 to 7, in order
+  abbrev pub rowsTo7 : KeySlices → (positions u v r s α t a : List ℕ) → List (Bool × ℕ)
+  rowsTo7 lent positions u v r s α t a =
+      sizes l key ++ checks (long (proveLent (lengths l key) lent positions u v r s α t a)) (keyWithin l lent) (below 1 u) (withins l (v ∷ r ∷ s ∷ α ∷ [])) (codesOf (key .n) positions)
+
+  -- and 16, "after 7 and before 8"
   abbrev pub proveRows : KeySlices → (positions u v r s α t a : List ℕ) → List (Bool × ℕ)
-  proveRows lent positions u v r s α t a =
-      sizes l key ++ checks (long (proveLent (lengths l key) lent positions u v r s α t a)) (keyWithin l lent) (below 1 u) (withins l (v ∷ r ∷ s ∷ α ∷ [])) (below (degree (key .n)) positions)
+  proveRows lent positions u v r s α t a = rowsTo7 lent positions u v r s α t a ++ spareRow (codesOf (key .n) positions)
 
   -- "prove, before writing": 8 "some top coefficient of the n + m polynomials isn't zero"
   abbrev pub topsRow : KeySlices → (positions v : List ℕ) → List (Bool × ℕ)

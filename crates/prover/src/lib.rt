@@ -52,7 +52,7 @@ fn lengths(
     (h.len() ^ len.matrix) | ((x.len() ^ len.vector) | ((y.len() ^ len.target) | material))
 }
 
-// The first of refusals 1 to 7 that applies, or Done.
+// The first of refusals 1 to 7 and 16 that applies, or Done.
 fn refused(
     key: Key,
     h: &[u16],
@@ -80,8 +80,7 @@ fn refused(
     let elements = key::excess(h, x, y, FIRST);
     let coordinates = field::excess(v, FIRST)
         | (field::excess(r, FIRST) | (field::excess(s, FIRST) | field::excess(alpha, FIRST)));
-    let positions = key::over(positions, key.degree());
-    key::contents(elements, key::over(u, 1), coordinates, positions)
+    key::contents(elements, key::over(u, 1), coordinates, key.codes(positions))
 }
 
 // Zero exactly when all n + m top coefficients are zero; they do not depend on the offsets. p is room for them, work for 2^d elements.
@@ -190,7 +189,7 @@ pub fn prove(
     a: &mut [u16],
 ) -> Answer
     ensures outcome { λ o. ⌜ (o, (now (t .exit), now (a .exit))) ≡ proveOutcome (levelAt FIRST) key (keySlices (now (h .entry)) (now (x .entry)) (now (y .entry))) (now (positions .entry)) (now (u .entry)) (now (v .entry)) (now (r .entry)) (now (s .entry)) (now (alpha .entry)) (now (t .entry)) (now (a .entry)) ⌝ }
-    ensures solved { λ o. ⌜ Solved (levelAt FIRST) key (keySlices (now (h .entry)) (now (x .entry)) (now (y .entry))) (now (positions .entry)) (now (u .entry)) (now (v .entry)) (now (r .entry)) (now (s .entry)) (now (alpha .entry)) (now (t .entry)) (now (a .entry)) (o ≡ Done) (o ≡ refusal 8) ⌝ }
+    ensures solved { λ o. ⌜ Solved (levelAt FIRST) key (keySlices (now (h .entry)) (now (x .entry)) (now (y .entry))) (now (positions .entry)) (now (u .entry)) (now (v .entry)) (now (r .entry)) (now (s .entry)) (now (alpha .entry)) (now (t .entry)) (now (a .entry)) (o ≡ Done) (o ≡ refusal 8) (o ≡ refusal 16) ⌝ }
 {
     let answer = refused(key, h, x, y, positions, u, v, r, s, alpha, t, a);
     match answer {

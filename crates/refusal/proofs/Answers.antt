@@ -49,6 +49,12 @@ after-refused [] others e h = let z : _≡_ {A = ℕ} 0 1 = cc in absurd (omega 
 after-refused ((false, k) ∷ rows) others e h = after-refused rows others e h
 after-refused ((true, k) ∷ rows) others e h = e
 
+-- where none of both applies
+pub both-done : (rows others : List (Bool × ℕ)) → firstOf (rows ++ others) ≡ Done → (firstOf rows ≡ Done) × (firstOf others ≡ Done)
+both-done [] others e = (refl, e)
+both-done ((false, k) ∷ rows) others e = both-done rows others e
+both-done ((true, k) ∷ rows) others e = let z : _≡_ {A = ℕ} 0 1 = cc in absurd (omega arith)
+
 -- no answer is both
 pub not-both : {r : Answer} {k : Refusal} → r ≡ Done → r ≡ Refused k → ⊥
 not-both d e = let z : _≡_ {A = ℕ} 0 1 = cc in omega arith

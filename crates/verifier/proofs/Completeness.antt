@@ -18,20 +18,21 @@ use Rattle.field.specs.Word.{within}
 use Rattle.field.proofs.Fields.{bounded}
 use Rattle.key.specs.declared.Key.{Key}
 use Rattle.key.specs.declared.Lengths.{Lengths}
-use Rattle.key.specs.Key.{degree, KeySlices, lengths, keyWithin, below, withins}
+use Rattle.key.specs.declared.Code.the-variants.{Column}
+use Rattle.key.specs.Key.{degree, KeySlices, lengths, keyWithin, below, codesOf, withins}
 use Rattle.key.proofs.Checked.{Checked, checked, checked-done}
 use Rattle.constraints.specs.System.{System}
 use Rattle.constraints.specs.Entry.{system}
 use Rattle.constraints.specs.Slices.{maskedBytes, witnessOf}
 use Rattle.checkzero.specs.Slices.{topsZero, proofWords}
 use Rattle.checkzero.proofs.Written.{complete-written, proof-length, proof-within, masked-length, masked-below}
-use Rattle.prover.specs.Entry.{proveLent, proveRows, topsRow, proveResult, proveOutcome}
+use Rattle.prover.specs.Entry.{proveLent, rowsTo7, proveRows, topsRow, proveResult, proveOutcome}
 use Rattle.prover.specs.Solved.{SolvesKey}
-use Rattle.prover.proofs.Solved.{solved, solves}
+use Rattle.prover.proofs.Solved.{solved, solves, passes}
 use Rattle.verifier.specs.Entry.{verifyLent, verifyRows, verifyOutcome}
 use Rattle.verifier.specs.Complete.{HonestVerifier, Complete, Completeness}
 
-module _ (number : ℕ) (key : Key) (lent : KeySlices) (positions u v r s α t₀ a₀ q Δ masks : List ℕ) (e : firstOf (proveRows (levelAt number) key lent positions u v r s α t₀ a₀) ≡ Done)
+module _ (number : ℕ) (key : Key) (lent : KeySlices) (positions u v r s α t₀ a₀ q Δ masks : List ℕ) (e : firstOf (rowsTo7 (levelAt number) key lent positions u v r s α t₀ a₀) ≡ Done)
     (solving : SolvesKey (levelAt number) key lent positions) (o : HonestVerifier (levelAt number) key lent u v r s q Δ masks) where
   abbrev l : Level
   l = levelAt number
@@ -52,15 +53,15 @@ module _ (number : ℕ) (key : Key) (lent : KeySlices) (positions u v r s α t�
   abbrev a : List ℕ
   a = proofWords l S w v r s α
 
-  known : Checked l key (long (proveLent len lent positions u v r s α t₀ a₀)) (keyWithin l lent) (below 1 u) (withins l (v ∷ r ∷ s ∷ α ∷ [])) (below (degree (key .n)) positions)
-  known = checked l key (long (proveLent len lent positions u v r s α t₀ a₀)) (keyWithin l lent) (below 1 u) (withins l (v ∷ r ∷ s ∷ α ∷ [])) (below (degree (key .n)) positions) e
+  known : Checked l key (long (proveLent len lent positions u v r s α t₀ a₀)) (keyWithin l lent) (below 1 u) (withins l (v ∷ r ∷ s ∷ α ∷ [])) (codesOf (key .n) positions)
+  known = checked l key (long (proveLent len lent positions u v r s α t₀ a₀)) (keyWithin l lent) (below 1 u) (withins l (v ∷ r ∷ s ∷ α ∷ [])) (codesOf (key .n) positions) e
 
   slices : Long (proveLent len lent positions u v r s α t₀ a₀)
   slices = each-long (proveLent len lent positions u v r s α t₀ a₀) (known .slices-fine)
 
   -- none of verify's refusals applies to it
   not-refused : firstOf (verifyRows l key lent t q Δ masks α a) ≡ Done
-  not-refused = checked-done l key (long (verifyLent len lent t q Δ masks α a)) (keyWithin l lent) (below 1 t) (withins l (q ∷ Δ ∷ masks ∷ α ∷ a ∷ [])) true (record {
+  not-refused = checked-done l key (long (verifyLent len lent t q Δ masks α a)) (keyWithin l lent) (below 1 t) (withins l (q ∷ Δ ∷ masks ∷ α ∷ a ∷ [])) Column (record {
     is-sized = known .is-sized;
     slices-fine = long-each (verifyLent len lent t q Δ masks α a)
         (slices .0, (slices .1 .0, (slices .1 .1 .0, (masked-length l S w u ∙ mul-comm (degree (key .n)) (key .n), (o .q-length, (o .Δ-length, (o .masks-length, (slices .1 .1 .1 .1 .1 .1 .1 .1 .0, (proof-length l S w v r s α, tt)))))))));
@@ -88,7 +89,7 @@ module _ (number : ℕ) (key : Key) (lent : KeySlices) (positions u v r s α t�
 
   done : proveOutcome l key lent positions u v r s α t₀ a₀ .0 ≡ Done
   unfolding proveOutcome
-  done = solved number key lent positions u v r s α t₀ a₀ refl .done .1 (e, solving)
+  done = solved number key lent positions u v r s α t₀ a₀ refl .done .1 (passes number key lent positions u v r s α t₀ a₀ e solving, solving)
 
   left : proveOutcome l key lent positions u v r s α t₀ a₀ .1 ≡ (t, a)
   unfolding proveOutcome

@@ -1,6 +1,5 @@
 -- What holds of the slices lent to verify where no refusal applies.
 use mathlib.Core.Path.{_≡_}
-use mathlib.Core.Bool.{true}
 use mathlib.Core.List.{List, [], _∷_}
 use Prim.Native.Nat.{ℕ, _≤_}
 use native.Mathlib.Omega.{arith}
@@ -16,6 +15,7 @@ use Rattle.row.specs.Elements.{Words, Bits}
 use Rattle.row.specs.Lent.{LentKey, LentTarget}
 use Rattle.key.specs.declared.Key.{Key}
 use Rattle.key.specs.declared.Lengths.{Lengths}
+use Rattle.key.specs.declared.Code.the-variants.{Column}
 use Rattle.key.specs.Key.{degree, KeySlices, lengths, Sized, keyWithin, below, withins}
 use Rattle.key.proofs.Sized.{degree-some}
 use Rattle.key.proofs.Fine.{below-lt, each-within}
@@ -52,7 +52,7 @@ module _ (number : ℕ) (key : Key) where
 
   pub verify-fine : (lent : KeySlices) (t q Δ masks α a : List ℕ) → firstOf (verifyRows l key lent t q Δ masks α a) ≡ Done → VerifyFine lent t q Δ masks α a
   verify-fine lent t q Δ masks α a e =
-      let c = checked l key (long (verifyLent len lent t q Δ masks α a)) (keyWithin l lent) (below 1 t) (withins l (q ∷ Δ ∷ masks ∷ α ∷ a ∷ [])) true e in
+      let c = checked l key (long (verifyLent len lent t q Δ masks α a)) (keyWithin l lent) (below 1 t) (withins l (q ∷ Δ ∷ masks ∷ α ∷ a ∷ [])) Column e in
       let s = each-long (verifyLent len lent t q Δ masks α a) (c .slices-fine) in
       let f = each-within l (q ∷ Δ ∷ masks ∷ α ∷ a ∷ []) (c .coordinates-fine) in
       record {

@@ -1,7 +1,7 @@
 -- What the entry verify answers.
 use mathlib.Core.Path.{_≡_}
 use mathlib.Core.Logic.{_↔_}
-use mathlib.Core.Bool.{Bool, true}
+use mathlib.Core.Bool.{Bool}
 use mathlib.Core.List.{List, [], _∷_, _++_}
 use Prim.Native.Nat.{ℕ}
 use Rattle.lists.specs.Lent.{long}
@@ -12,6 +12,7 @@ use Rattle.refusal.specs.declared.Verdict.{Verdict}
 use Rattle.field.specs.declared.Level.{Level}
 use Rattle.key.specs.declared.Key.{Key}
 use Rattle.key.specs.declared.Lengths.{Lengths}
+use Rattle.key.specs.declared.Code.the-variants.{Column}
 use Rattle.key.specs.Key.{KeySlices, lengths, sizes, keyLent, keyWithin, below, withins, checks}
 use Rattle.constraints.specs.Entry.{system}
 use Rattle.checkzero.specs.Slices.{AcceptsSlices, accepts}
@@ -31,7 +32,7 @@ verifyLent len lent t q Δ masks α a =
 module _ (l : Level) (key : Key) where
   -- its refusals, in order
   abbrev pub verifyRows : KeySlices → (t q Δ masks α a : List ℕ) → List (Bool × ℕ)
-  verifyRows lent t q Δ masks α a = sizes l key ++ checks (long (verifyLent (lengths l key) lent t q Δ masks α a)) (keyWithin l lent) (below 1 t) (withins l (q ∷ Δ ∷ masks ∷ α ∷ a ∷ [])) true
+  verifyRows lent t q Δ masks α a = sizes l key ++ checks (long (verifyLent (lengths l key) lent t q Δ masks α a)) (keyWithin l lent) (below 1 t) (withins l (q ∷ Δ ∷ masks ∷ α ∷ a ∷ [])) Column
 
   unfoldable pub verifyOutcome : KeySlices → (t q Δ masks α a : List ℕ) → Verdict
   verifyOutcome lent t q Δ masks α a = judged (firstOf (verifyRows lent t q Δ masks α a)) (accepts l (system l key lent) t q Δ masks α a)

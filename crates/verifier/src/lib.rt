@@ -13,6 +13,7 @@ ghost use Rattle.checkzero.specs.Slices.{accepts};
 ghost use Rattle.verifier.specs.Entry.{verifyLent, verifyRows, verifyOutcome, Judges};
 use field::FIRST;
 use folding::values;
+use key::Code;
 use key::Key;
 use refusal::Answer;
 use refusal::Refusal;
@@ -73,7 +74,7 @@ fn refused(
         | (field::excess(delta, FIRST)
             | (field::excess(masks, FIRST)
                 | (field::excess(alpha, FIRST) | field::excess(a, FIRST))));
-    key::contents(elements, key::over(t, 1), coordinates, 0)
+    key::contents(elements, key::over(t, 1), coordinates, Code::COLUMN)
 }
 
 // Zero exactly when a at the challenge equals the weighted sum of the values plus the mask sum. The last four slices are room for an

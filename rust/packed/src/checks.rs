@@ -22,9 +22,21 @@ fn above(words: &[u16]) -> bool {
     words.iter().fold(0, |all, word| all | word) > LIMIT
 }
 
-/// Whether some byte has more digits.
-fn longer(bytes: &[u8], digits: usize) -> bool {
-    bytes.iter().fold(0, |all, byte| all | byte) >> digits != 0
+/// Whether some byte is above 1.
+fn above_1(bytes: &[u8]) -> bool {
+    bytes.iter().fold(0, |all, byte| all | byte) > 1
+}
+
+/// What positions are together: 0 where all are columns, 2 where some is 2^d or
+/// more, else 1. A position and what a limit lacks to 256 have a ninth digit where
+/// the position is the limit or more; these are joined first.
+fn codes(positions: &[u8], n: usize, d: usize) -> u16 {
+    let reach = |limit: usize| {
+        let rest = 256 - limit as u16;
+        let joined = |all, &position: &u8| all | (u16::from(position) + rest);
+        positions.iter().fold(0, joined) >> 8
+    };
+    reach(n) + reach(1 << d)
 }
 
 /// The words of an element.
@@ -56,17 +68,21 @@ pub struct Slices<'a> {
     pub elements: &'a [&'a [u16]],
     /// The positions, where the entry takes some.
     pub positions: &'a [u8],
+    /// Whether spare codes are refused.
+    pub columns_alone: bool,
 }
 
-/// The refusals 1 to 7, and the key where none applies.
+/// The refusals 1 to 7 and 16, and the key where none applies.
 pub fn keyed<'a>(key: Key<'a>, slices: Slices) -> Result<Within<'a>, Refusal> {
     let sizes = key.sizes()?;
     key.judge_lengths(sizes, slices.lent)?;
     let mut words = [key.h, key.x, key.y].into_iter();
     unless(words.any(above), Refusal::KeyElement)?;
-    unless(longer(slices.bits, 1), Refusal::Bit)?;
+    unless(above_1(slices.bits), Refusal::Bit)?;
     let mut elements = slices.elements.iter();
     unless(elements.any(|words| above(words)), Refusal::Coordinate)?;
-    unless(longer(slices.positions, sizes.d), Refusal::Position)?;
+    let codes = codes(slices.positions, sizes.n, sizes.d);
+    unless(codes == 2, Refusal::Position)?;
+    unless(slices.columns_alone && codes == 1, Refusal::SpareCode)?;
     Ok(Within { key, d: sizes.d })
 }

@@ -39,6 +39,7 @@ pub fn constraints(
         bits: u,
         elements: &[v],
         positions,
+        columns_alone: false,
     };
     number(keyed(key, slices).map(|key| {
         let mut sums = [ZERO; COEFFICIENTS * POLYNOMIALS];
@@ -55,6 +56,7 @@ pub fn values(key: Key<'_>, t: &[u8], q: &[u16], delta: &[u16], values: &mut [u1
         bits: t,
         elements: &[q, delta],
         positions: &[],
+        columns_alone: false,
     };
     number(keyed(key, slices).map(|key| {
         let mut sums = [ZERO; POLYNOMIALS];
@@ -81,6 +83,7 @@ pub fn prove(
         bits: u,
         elements: &[v, r, s, alpha],
         positions,
+        columns_alone: true,
     };
     number(keyed(key, slices).and_then(|key| {
         let mut tops = [ZERO; POLYNOMIALS];
@@ -116,6 +119,7 @@ pub fn verify(
         bits: t,
         elements: &[q, delta, masks, alpha, a],
         positions: &[],
+        columns_alone: false,
     };
     let key = match keyed(key, slices) {
         Ok(key) => key,

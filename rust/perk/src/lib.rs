@@ -26,7 +26,8 @@
 //!
 //! Position i says which entry of x becomes entry i of x': x'(i) = x(position i).
 //! Positions solve a key when they are 0 to n - 1, each once, and H times x' is
-//! the target y. A key without a target has m zeros as y.
+//! the target y. A key without a target has m zeros as y. Positions below n are
+//! columns; n to 2^d - 1 are spare codes, which name no entry of x.
 //!
 //! # Refusals and verdicts
 //!
@@ -42,10 +43,10 @@
 //!
 //! # Examples
 //!
-//! Key A of the specification, where n is 2, so d is 1 and there are no masks;
-//! in all four, `k` makes an element of K of one of F, as the first writes it.
-//! `examples/whole_run.rs` of this package goes from a new key at n = 64, with
-//! masks, to a check file.
+//! Unless it is said otherwise, key A of the specification, where n is 2, so d is
+//! 1 and there are no masks; `k` makes an element of K of one of F, as the first
+//! example writes it. `examples/whole_run.rs` of this package goes from a new key
+//! at n = 64, with masks, to a check file.
 //!
 //! To make a proof:
 //!
@@ -67,7 +68,26 @@
 //! # }
 //! ```
 //!
-//! To verify it, with the challenge 2 and q = u delta + v:
+//! Positions that do not solve the key are refused, and a spare code before any
+//! algebra. For n = 3, where d is 2, that is 3:
+//!
+//! ```
+//! use perk::{Key, Masks, Prover, Refusal, WORDS};
+//!
+//! // every order of 0, 1 and 2 solves this key, since 1 + 2 + 3 is 0 in F
+//! let key = Key { n: 3, m: 1, h: &[1, 1, 1], x: &[1, 2, 3], y: &[0] };
+//! let prove = |positions: [u8; 3]| {
+//!     let prover = Prover { positions: &positions, u: &[0; 6], v: &[0; WORDS * 6] };
+//!     let masks = Masks { r: &[0; WORDS], s: &[0; WORDS] };
+//!     perk::prove(key, prover, masks, &[0; WORDS * 4], &mut [0; 6], &mut [0; WORDS * 2])
+//! };
+//! assert_eq!(prove([2, 0, 1]), Ok(()));
+//! assert_eq!(prove([2, 0, 2]), Err(Refusal::TopCoefficient));
+//! assert_eq!(prove([2, 0, 3]), Err(Refusal::SpareCode));
+//! assert_eq!(prove([2, 3, 4]), Err(Refusal::Position));
+//! ```
+//!
+//! To verify the proof of key A, with the challenge 2 and q = u delta + v:
 //!
 //! ```
 //! use perk::{Key, Verdict};
@@ -195,8 +215,9 @@ pub struct Key<'a> {
 /// by `Debug`.
 #[derive(Clone, Copy)]
 pub struct Prover<'a> {
-    /// n bytes, each below 2^d: position i says which entry of x becomes entry
-    /// i of x', so x'(i) = x(position i).
+    /// n bytes: position i says which entry of x becomes entry i of x', so x'(i) =
+    /// x(position i). [`constraints`] takes all that are below 2^d, [`prove`] those
+    /// below n.
     pub positions: &'a [u8],
     /// The mask bits: n d bytes, each 0 or 1.
     pub u: &'a [u8],
@@ -241,7 +262,7 @@ pub fn product(a: &[u16], b: &[u16], out: &mut [u16]) -> Result<(), Refusal> {
 /// - `polynomials`: 12 (n + m) (d + 1) words, written: polynomial 0 first, d + 1
 ///   coefficients each, that of X^0 first.
 ///
-/// Positions from n to 2^d - 1 are taken.
+/// Spare codes, positions from n to 2^d - 1, are taken.
 ///
 /// Proved of what is written where it returns `Ok`: the top coefficients, those
 /// of X^d, of all n + m polynomials are zero exactly when the positions solve
@@ -300,8 +321,10 @@ pub fn values(
 ///
 /// Proved besides: where none of the refusals before
 /// [`Refusal::TopCoefficient`] applies, it returns `Ok` exactly when the
-/// positions solve the key, and that refusal exactly when they do not. And
-/// wherever it returns `Ok`, [`verify`] accepts `t` and `a` with the same key
+/// positions solve the key, and that refusal exactly when they do not; where
+/// none of those before [`Refusal::SpareCode`] applies, it returns that refusal
+/// exactly when a position is a spare code, and such positions never solve a
+/// key. And wherever it returns `Ok`, [`verify`] accepts `t` and `a` with the same key
 /// and weights, any challenge delta, each q(i,k) = u(i,k) delta + v(i,k) and
 /// each masks(k) = s(k) delta + r(k).
 ///
@@ -314,7 +337,8 @@ pub fn values(
 /// In this order: [`Refusal::SizeN`], [`Refusal::SizeM`],
 /// [`Refusal::SliceLength`] (all eleven slices), [`Refusal::KeyElement`] (`h`,
 /// `x`, `y`), [`Refusal::Bit`] (`u`), [`Refusal::Coordinate`] (`v`, `r`, `s`,
-/// `alpha`), [`Refusal::Position`], and then [`Refusal::TopCoefficient`], found
+/// `alpha`), [`Refusal::Position`], wherever among spare codes such a position
+/// stands, [`Refusal::SpareCode`], and then [`Refusal::TopCoefficient`], found
 /// before anything is written, whatever the weights are.
 pub fn prove(
     key: Key<'_>,

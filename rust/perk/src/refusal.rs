@@ -40,13 +40,17 @@ pub enum Refusal {
     BytesFollow = 12,
     /// 14: the field 04 of a file is present, and all its elements are zero.
     ZeroTarget = 14,
+    /// 16: a position is a spare code, n to 2^d - 1, which names no column, and
+    /// none is 2^d or more. Of [`prove`](crate::prove) alone;
+    /// [`constraints`](crate::constraints) takes spare codes.
+    SpareCode = 16,
     /// 19: a serial of four bytes is below 65536, so that it fits two.
     LongSerial = 19,
 }
 
 impl Refusal {
     /// All refusals, in the order of their numbers.
-    pub const ALL: [Refusal; 14] = [
+    pub const ALL: [Refusal; 15] = [
         Refusal::SizeN,
         Refusal::SizeM,
         Refusal::SliceLength,
@@ -60,10 +64,11 @@ impl Refusal {
         Refusal::FieldLength,
         Refusal::BytesFollow,
         Refusal::ZeroTarget,
+        Refusal::SpareCode,
         Refusal::LongSerial,
     ];
 
-    /// Its number, 1 to 12, 14 or 19, which the C function returns.
+    /// Its number, 1 to 12, 14, 16 or 19, which the C function returns.
     pub const fn number(self) -> u32 {
         self as u32
     }
@@ -100,6 +105,7 @@ impl fmt::Display for Refusal {
             Refusal::FieldLength => "a field's length is not one stated for it",
             Refusal::BytesFollow => "bytes follow the last field",
             Refusal::ZeroTarget => "field 04 is present and all its elements are zero",
+            Refusal::SpareCode => "a position is a spare code, n to 2^d - 1, which names no column",
             Refusal::LongSerial => "a serial of four bytes is below 65536, so that it fits two",
         })
     }

@@ -4,7 +4,7 @@
 mod common;
 
 use common::{words, Case};
-use perk::Refusal::{Position, TopCoefficient};
+use perk::Refusal::{Position, SpareCode, TopCoefficient};
 use perk::{digits, Verdict};
 
 #[test]
@@ -84,7 +84,7 @@ fn three_positions_1_1_1() {
 fn three_positions_0_1_3() {
     let mut case = Case::three();
     case.positions = vec![0, 1, 3];
-    assert_eq!(case.prove(), Err(TopCoefficient));
+    assert_eq!(case.prove(), Err(SpareCode));
     assert!(case.nothing_written());
     assert_eq!(case.constraints(), Ok(()));
     assert_eq!(case.tops()[..3], [0, 0, 1]);

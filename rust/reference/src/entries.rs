@@ -4,7 +4,7 @@
 
 use crate::check_zero;
 use crate::constraint;
-use crate::key::{bits, elements_of_k, rows, witness, Key};
+use crate::key::{bits, elements_of_k, judge_columns, rows, witness, Key};
 use crate::large_field::{COORDINATES, K};
 use crate::lent;
 use crate::polynomial::Polynomial;
@@ -115,6 +115,7 @@ pub fn prove(
     let s = elements_of_k(s)?;
     let alpha = elements_of_k(alpha)?;
     let w = witness(positions, d)?;
+    judge_columns(&w, sizes)?;
 
     let polynomials = constraint::polynomials(&key, &w, &v);
     judge_tops(d, &polynomials)?;

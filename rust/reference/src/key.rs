@@ -249,6 +249,17 @@ pub fn witness(positions: &[u8], d: usize) -> Result<Vec<Vec<bool>>, Refusal> {
         .collect()
 }
 
+/// 16 "when prove is lent a spare code": a row of digits that are those of no
+/// column. None of the positions is too large.
+pub fn judge_columns(w: &[Vec<bool>], sizes: Sizes) -> Result<(), Refusal> {
+    let columns: Vec<Vec<bool>> = (0..sizes.n).map(|j| digits(j, sizes.d)).collect();
+    if w.iter().all(|row| columns.contains(row)) {
+        Ok(())
+    } else {
+        Err(Refusal::SpareCode)
+    }
+}
+
 /// A list cut into rows: "row after row, k = 0 first".
 pub fn rows<T: Clone>(list: &[T], width: usize) -> Vec<Vec<T>> {
     list.chunks(width).map(<[T]>::to_vec).collect()

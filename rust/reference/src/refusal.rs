@@ -32,13 +32,15 @@ pub enum Refusal {
     BytesFollow,
     /// 14: "field 04 is present and all its elements are zero".
     ZeroTarget,
+    /// 16: "when prove is lent a spare code and none is too large".
+    SpareCode,
     /// 19: "a four-byte serial is below 65,536".
     LongSerial,
 }
 
 impl Refusal {
     /// All refusals in the order of their numbers.
-    pub const ALL: [Refusal; 14] = [
+    pub const ALL: [Refusal; 15] = [
         Refusal::SizeN,
         Refusal::SizeM,
         Refusal::SliceLength,
@@ -52,6 +54,7 @@ impl Refusal {
         Refusal::FieldLength,
         Refusal::BytesFollow,
         Refusal::ZeroTarget,
+        Refusal::SpareCode,
         Refusal::LongSerial,
     ];
 
@@ -71,6 +74,7 @@ impl Refusal {
             Refusal::FieldLength => 11,
             Refusal::BytesFollow => 12,
             Refusal::ZeroTarget => 14,
+            Refusal::SpareCode => 16,
             Refusal::LongSerial => 19,
         }
     }

@@ -1,10 +1,14 @@
-use mathlib.Core.Bool.{true, false}
+use mathlib.Core.Bool.{Bool, true, false}
+use mathlib.Core.List.{_++_}
 use borrow.Author.Tests.{eq-eqb, ne-eqb}
 use lib.Dec.{eqb}
 use Rattle.refusal.specs.Answer.{firstOf}
-use Rattle.key.specs.Key.{contents}
+use Rattle.refusal.specs.declared.Answer.{Answer}
+use Rattle.key.specs.declared.Code.{Code}
+use Rattle.key.specs.Key.{codeAt, contents, spareRow}
 use Prim.Native.Nat.{ℕ}
-use mathlib.Core.Path.{_≡_, sym}
+use mathlib.Core.Path.{_≡_, sym, _∙_}
+use borrow.Author.Needs.{needs}
 use Rattle.key.proofs.contents.Statement.{statement}
 use Rattle.key.proofs.contents.Tie as tie
 
@@ -15,30 +19,63 @@ none a h = sym (eq-eqb a 0 h)
 some : (a : ℕ) → (a ≡ 0 → ⊥) → false ≡ eqb a 0
 some a h = sym (ne-eqb a 0 h)
 
+-- the answer, by what each row says
+abbrev rows : (elements bits coordinates : Bool) (positions : Code) → Answer
+rows elements bits coordinates positions = firstOf (contents elements bits coordinates positions ++ spareRow positions)
+
 returns : tie.Need-returns
 returns c =
     let a = c .before .args in
-    λ t. firstOf (contents (some (a .elements) (c .if1 .taken) t) (eqb (a .bits) 0) (eqb (a .coordinates) 0) (eqb (a .positions) 0))
+    λ t. rows (some (a .elements) (c .if1 .taken) t) (eqb (a .bits) 0) (eqb (a .coordinates) 0) (codeAt (a .positions))
 
 returns-2 : tie.Need-returns-2
 returns-2 c =
     let a = c .before .before .args in
-    λ t. firstOf (contents (none (a .elements) (c .before .if1 .left) t) (some (a .bits) (c .if2 .taken) t) (eqb (a .coordinates) 0) (eqb (a .positions) 0))
+    λ t. rows (none (a .elements) (c .before .if1 .left) t) (some (a .bits) (c .if2 .taken) t) (eqb (a .coordinates) 0) (codeAt (a .positions))
 
 returns-3 : tie.Need-returns-3
 returns-3 c =
     let a = c .before .before .before .args in
-    λ t. firstOf (contents (none (a .elements) (c .before .before .if1 .left) t) (none (a .bits) (c .before .if2 .left) t) (some (a .coordinates) (c .if3 .taken) t) (eqb (a .positions) 0))
+    λ t. rows (none (a .elements) (c .before .before .if1 .left) t) (none (a .bits) (c .before .if2 .left) t) (some (a .coordinates) (c .if3 .taken) t) (codeAt (a .positions))
+
+of-requires : tie.Need-of-requires
+of-requires c κs = search needs
+
+enum-told : tie.Need-enum-told
+enum-told c = search needs
+
+enum-told-2 : tie.Need-enum-told-2
+enum-told-2 c = search needs
+
+enum-told-3 : tie.Need-enum-told-3
+enum-told-3 c = search needs
+
+-- past the first three rows, the case of the positions
+passed : (c : tie.After-of) {code : Code} → let a = c .before .before .before .before .args in
+    code ≡ codeAt (a .positions) → rows true true true code ≡ rows (eqb (a .elements) 0) (eqb (a .bits) 0) (eqb (a .coordinates) 0) (codeAt (a .positions))
+passed c e = let a = c .before .before .before .before .args in
+    λ t. rows (none (a .elements) (c .before .before .before .if1 .left) t) (none (a .bits) (c .before .before .if2 .left) t) (none (a .coordinates) (c .before .if3 .left) t) (e t)
 
 returns-4 : tie.Need-returns-4
-returns-4 c =
-    let a = c .before .before .before .before .args in
-    λ t. firstOf (contents (none (a .elements) (c .before .before .before .if1 .left) t) (none (a .bits) (c .before .before .if2 .left) t) (none (a .coordinates) (c .before .if3 .left) t) (some (a .positions) (c .if4 .taken) t))
+returns-4 c = passed (c .before .before) (sym (c .enum-told .given .1) ∙ c .before .before .of .ensures)
 
 returns-5 : tie.Need-returns-5
-returns-5 c =
-    let a = c .before .before .before .before .args in
-    λ t. firstOf (contents (none (a .elements) (c .before .before .before .if1 .left) t) (none (a .bits) (c .before .before .if2 .left) t) (none (a .coordinates) (c .before .if3 .left) t) (none (a .positions) (c .if4 .left) t))
+returns-5 c = passed (c .before .before) (sym (c .enum-told2 .given .1) ∙ c .before .before .of .ensures)
+
+returns-6 : tie.Need-returns-6
+returns-6 c = passed (c .before .before) (sym (c .enum-told3 .given .1) ∙ c .before .before .of .ensures)
 
 pub contents-spec : {M : Type 1} → statement M
-contents-spec = tie.close (tie.spec returns returns-2 returns-3 returns-4 returns-5)
+contents-spec =
+    tie.close
+    (tie.spec
+    returns
+    returns-2
+    returns-3
+    of-requires
+    enum-told
+    enum-told-2
+    enum-told-3
+    returns-4
+    returns-5
+    returns-6)

@@ -32,12 +32,12 @@ same-length-2 c = search needs
 done : (l : Level) (key : Key) (lent : KeySlices) (positions u v r s α t a : List ℕ) {o : Answer} {left : List ℕ × List ℕ} {k : ℕ} → (o, left) ≡ proveOutcome l key lent positions u v r s α t a → k ≡ numberOf o → (k ≡ 0) ↔ (o ≡ Done)
 unfolding proveOutcome
 done l key lent positions u v r s α t a e n =
-    told-done n (proveRows l key lent positions u v r s α t a ++ topsRow l key lent positions v) (omega arith, omega arith, (omega arith, omega arith, (omega arith, omega arith, (omega arith, omega arith, (omega arith, omega arith, (omega arith, omega arith, (omega arith, omega arith, (omega arith, omega arith, (omega arith, omega arith, (omega arith, omega arith, tt)))))))))) (ap (λ (o : Answer × (List ℕ × List ℕ)). o .0) e)
+    told-done n (proveRows l key lent positions u v r s α t a ++ topsRow l key lent positions v) (omega arith, omega arith, (omega arith, omega arith, (omega arith, omega arith, (omega arith, omega arith, (omega arith, omega arith, (omega arith, omega arith, (omega arith, omega arith, (omega arith, omega arith, (omega arith, omega arith, (omega arith, omega arith, (omega arith, omega arith, tt))))))))))) (ap (λ (o : Answer × (List ℕ × List ℕ)). o .0) e)
 
 solved : (l : Level) (key : Key) (lent : KeySlices) (positions u v r s α t a : List ℕ) {o : Answer} {left : List ℕ × List ℕ} {k : ℕ} → (o, left) ≡ proveOutcome l key lent positions u v r s α t a → k ≡ numberOf o
-    → Solved l key lent positions u v r s α t a (o ≡ Done) (o ≡ refusal 8) → Solved l key lent positions u v r s α t a (k ≡ 0) (k ≡ 8)
+    → Solved l key lent positions u v r s α t a (o ≡ Done) (o ≡ refusal 8) (o ≡ refusal 16) → Solved l key lent positions u v r s α t a (k ≡ 0) (k ≡ 8) (k ≡ 16)
 solved l key lent positions u v r s α t a e n known =
-    record { done = both (done l key lent positions u v r s α t a e n) (known .done); eight = both (told-refusal n 8 (omega arith)) (known .eight) }
+    record { done = both (done l key lent positions u v r s α t a e n) (known .done); eight = both (told-refusal n 8 (omega arith)) (known .eight); sixteen = both (told-refusal n 16 (omega arith)) (known .sixteen) }
 
 returns : tie.Need-returns
 returns c =

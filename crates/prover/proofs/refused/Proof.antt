@@ -1,4 +1,4 @@
-use mathlib.Core.List.{[], _∷_}
+use mathlib.Core.List.{[], _∷_, _++_}
 use lib.Bits.{bitOr}
 use Rattle.lists.specs.Lent.{long}
 use Rattle.refusal.specs.Answer.{firstOf}
@@ -6,10 +6,11 @@ use Rattle.refusal.specs.declared.Answer.the-variants.{Done}
 use Rattle.refusal.proofs.Answers.{after-refused, none}
 use Rattle.field.specs.Level.{FIRST, levelAt}
 use Rattle.field.proofs.Fields.{bounded}
-use Rattle.key.specs.Key.{keySlices, keyWithin, degree, lengths, sizes, Sized, below, withins, checks}
-use Rattle.key.proofs.Sized.{sized, degree-lt}
+use Rattle.key.specs.Key.{keySlices, keyWithin, lengths, sizes, Sized, below, codeAt, codesOf, withins, checks, spareRow}
+use Rattle.key.proofs.Sized.{sized}
+use Rattle.key.proofs.Codes.{at-number}
 use Rattle.key.proofs.Fine.{withins-more, withins-last}
-use Rattle.key.proofs.Checked.{told, told-length}
+use Rattle.key.proofs.Checked.{told-spare, told-length}
 use Rattle.prover.specs.Entry.{proveLent}
 use mathlib.Core.Path.{_≡_, sym, ap, _∙_}
 use native.Mathlib.Omega.{arith}
@@ -33,7 +34,7 @@ enum-told c = search needs
 returns : tie.Need-returns
 returns c =
     let a = c .before .before .before .before .before .before .before .before .before .before .before .before .before .before .args in
-    after-refused (sizes (levelAt FIRST) (a .key)) (checks (long (proveLent (lengths (levelAt FIRST) (a .key)) (keySlices (a .h .now) (a .x .now) (a .y .now)) (a .positions .now) (a .u .now) (a .v .now) (a .r .now) (a .s .now) (a .alpha .now) (a .t .now) (a .a .now))) (keyWithin (levelAt FIRST) (keySlices (a .h .now) (a .x .now) (a .y .now))) (below 1 (a .u .now)) (withins (levelAt FIRST) (a .v .now ∷ a .r .now ∷ a .s .now ∷ a .alpha .now ∷ [])) (below (degree (a .key .n)) (a .positions .now))) (c .before .before .sizes .ensures) (c .enum-told .given .1)
+    after-refused (sizes (levelAt FIRST) (a .key)) (checks (long (proveLent (lengths (levelAt FIRST) (a .key)) (keySlices (a .h .now) (a .x .now) (a .y .now)) (a .positions .now) (a .u .now) (a .v .now) (a .r .now) (a .s .now) (a .alpha .now) (a .t .now) (a .a .now))) (keyWithin (levelAt FIRST) (keySlices (a .h .now) (a .x .now) (a .y .now))) (below 1 (a .u .now)) (withins (levelAt FIRST) (a .v .now ∷ a .r .now ∷ a .s .now ∷ a .alpha .now ∷ [])) (codesOf (a .key .n) (a .positions .now)) ++ spareRow (codesOf (a .key .n) (a .positions .now))) (c .before .before .sizes .ensures) (c .enum-told .given .1)
 
 enum-told-2 : tie.Need-enum-told-2
 enum-told-2 c = search needs
@@ -44,7 +45,7 @@ lengths-requires c κs = is-sized c
 returns-2 : tie.Need-returns-2
 returns-2 c =
     let a = c .before .before .before .before .before .before .before .before .before .before .before .before .before .before .before .before .args in
-    told-length (levelAt FIRST) (a .key) (long (proveLent (lengths (levelAt FIRST) (a .key)) (keySlices (a .h .now) (a .x .now) (a .y .now)) (a .positions .now) (a .u .now) (a .v .now) (a .r .now) (a .s .now) (a .alpha .now) (a .t .now) (a .a .now))) (keyWithin (levelAt FIRST) (keySlices (a .h .now) (a .x .now) (a .y .now))) (below 1 (a .u .now)) (withins (levelAt FIRST) (a .v .now ∷ a .r .now ∷ a .s .now ∷ a .alpha .now ∷ [])) (below (degree (a .key .n)) (a .positions .now))
+    told-length (levelAt FIRST) (a .key) (long (proveLent (lengths (levelAt FIRST) (a .key)) (keySlices (a .h .now) (a .x .now) (a .y .now)) (a .positions .now) (a .u .now) (a .v .now) (a .r .now) (a .s .now) (a .alpha .now) (a .t .now) (a .a .now))) (keyWithin (levelAt FIRST) (keySlices (a .h .now) (a .x .now) (a .y .now))) (below 1 (a .u .now)) (withins (levelAt FIRST) (a .v .now ∷ a .r .now ∷ a .s .now ∷ a .alpha .now ∷ [])) (codesOf (a .key .n) (a .positions .now)) (spareRow (codesOf (a .key .n) (a .positions .now)))
     (passed (c .before .before)) (c .before .lengths .result) (c .before .lengths .ensures) (c .if1 .taken)
 
 excess-requires : tie.Need-excess-requires
@@ -62,30 +63,24 @@ excess-requires-4 c κs = search needs
 excess-requires-5 : tie.Need-excess-requires-5
 excess-requires-5 c κs = search needs
 
-degree-requires : tie.Need-degree-requires
-degree-requires c κs = omega (arith, is-sized (c .before .before .before .before .before .before .before) .two)
-
 over-requires : tie.Need-over-requires
-over-requires c κs =
-    let s = is-sized (c .before .before .before .before .before .before .before .before) in
-    let b = bounded FIRST in
-    omega (arith, c .degree .ensures, degree-lt (c .before .before .before .before .before .before .before .before .before .before .before .before .before .before .before .before .before .before .before .before .before .before .args .key .n) 8 (omega (arith, s .two)) (omega (arith, s .most, b .most)) (omega (arith, s .most, b .most)))
+over-requires c κs = search needs
 
-over-requires-2 : tie.Need-over-requires-2
-over-requires-2 c κs = search needs
+codes-requires : tie.Need-codes-requires
+codes-requires c κs = let s = is-sized (c .before .before .before .before .before .before .before .before) in (omega (arith, s .two), omega (arith, s .most, bounded FIRST .most))
 
 contents-requires : tie.Need-contents-requires
 contents-requires c κs = search needs
 
 returns-3 : tie.Need-returns-3
 returns-3 c =
-    let a = c .before .before .before .before .before .before .before .before .before .before .before .before .before .before .before .before .before .before .before .before .before .before .before .before .before .args in
-    told (levelAt FIRST) (a .key) (long (proveLent (lengths (levelAt FIRST) (a .key)) (keySlices (a .h .now) (a .x .now) (a .y .now)) (a .positions .now) (a .u .now) (a .v .now) (a .r .now) (a .s .now) (a .alpha .now) (a .t .now) (a .a .now))) (keyWithin (levelAt FIRST) (keySlices (a .h .now) (a .x .now) (a .y .now))) (below 1 (a .u .now)) (withins (levelAt FIRST) (a .v .now ∷ a .r .now ∷ a .s .now ∷ a .alpha .now ∷ [])) (below (degree (a .key .n)) (a .positions .now))
-    (passed (c .before .before .before .before .before .before .before .before .before .before .before)) (c .before .before .before .before .before .before .before .before .before .before .lengths .result) (c .before .before .before .before .before .before .before .before .before .before .lengths .ensures) (c .before .before .before .before .before .before .before .before .before .if1 .left) (c .contents .ensures)
-    (c .before .before .before .before .before .before .before .before .excess .ensures)
-    (c .before .over2 .ensures)
-    (withins-more (levelAt FIRST) (a .v .now) (a .r .now ∷ a .s .now ∷ a .alpha .now ∷ []) (c .before .before .before .before .before .before .before .excess2 .result) (bitOr (c .before .before .before .before .before .before .excess3 .result) (bitOr (c .before .before .before .before .before .excess4 .result) (c .before .before .before .before .excess5 .result))) (c .before .before .before .before .before .before .before .excess2 .ensures) (withins-more (levelAt FIRST) (a .r .now) (a .s .now ∷ a .alpha .now ∷ []) (c .before .before .before .before .before .before .excess3 .result) (bitOr (c .before .before .before .before .before .excess4 .result) (c .before .before .before .before .excess5 .result)) (c .before .before .before .before .before .before .excess3 .ensures) (withins-more (levelAt FIRST) (a .s .now) (a .alpha .now ∷ []) (c .before .before .before .before .before .excess4 .result) (c .before .before .before .before .excess5 .result) (c .before .before .before .before .before .excess4 .ensures) (withins-last (levelAt FIRST) (a .alpha .now) (c .before .before .before .before .excess5 .result) (c .before .before .before .before .excess5 .ensures)))))
-    (c .before .before .over .ensures ∙ ap (λ d. below d (a .positions .now)) (c .before .before .before .degree .ensures))
+    let a = c .before .before .before .before .before .before .before .before .before .before .before .before .before .before .before .before .before .before .before .before .before .before .before .before .args in
+    told-spare (levelAt FIRST) (a .key) (long (proveLent (lengths (levelAt FIRST) (a .key)) (keySlices (a .h .now) (a .x .now) (a .y .now)) (a .positions .now) (a .u .now) (a .v .now) (a .r .now) (a .s .now) (a .alpha .now) (a .t .now) (a .a .now))) (keyWithin (levelAt FIRST) (keySlices (a .h .now) (a .x .now) (a .y .now))) (below 1 (a .u .now)) (withins (levelAt FIRST) (a .v .now ∷ a .r .now ∷ a .s .now ∷ a .alpha .now ∷ [])) (codesOf (a .key .n) (a .positions .now))
+    (passed (c .before .before .before .before .before .before .before .before .before .before)) (c .before .before .before .before .before .before .before .before .before .lengths .result) (c .before .before .before .before .before .before .before .before .before .lengths .ensures) (c .before .before .before .before .before .before .before .before .if1 .left) (c .contents .ensures)
+    (c .before .before .before .before .before .before .before .excess .ensures)
+    (c .before .before .over .ensures)
+    (withins-more (levelAt FIRST) (a .v .now) (a .r .now ∷ a .s .now ∷ a .alpha .now ∷ []) (c .before .before .before .before .before .before .excess2 .result) (bitOr (c .before .before .before .before .before .excess3 .result) (bitOr (c .before .before .before .before .excess4 .result) (c .before .before .before .excess5 .result))) (c .before .before .before .before .before .before .excess2 .ensures) (withins-more (levelAt FIRST) (a .r .now) (a .s .now ∷ a .alpha .now ∷ []) (c .before .before .before .before .before .excess3 .result) (bitOr (c .before .before .before .before .excess4 .result) (c .before .before .before .excess5 .result)) (c .before .before .before .before .before .excess3 .ensures) (withins-more (levelAt FIRST) (a .s .now) (a .alpha .now ∷ []) (c .before .before .before .before .excess4 .result) (c .before .before .before .excess5 .result) (c .before .before .before .before .excess4 .ensures) (withins-last (levelAt FIRST) (a .alpha .now) (c .before .before .before .excess5 .result) (c .before .before .before .excess5 .ensures)))))
+    (ap codeAt (c .before .codes .ensures) ∙ at-number (codesOf (a .key .n) (a .positions .now)))
 
 pub refused-spec : {M : Type 1} → statement M
 refused-spec =
@@ -102,8 +97,7 @@ refused-spec =
     excess-requires-3
     excess-requires-4
     excess-requires-5
-    degree-requires
     over-requires
-    over-requires-2
+    codes-requires
     contents-requires
     returns-3)

@@ -23,13 +23,13 @@ use Rattle.checkzero.specs.CheckZero.{mask}
 use Rattle.checkzero.specs.Slices.{topsZero}
 use Rattle.checkzero.specs.Steps.{weightedAt}
 use Rattle.prover.specs.Entry.{topsRow, proveResult}
-use Rattle.prover.proofs.Fine.{ProveFine, prove-fine, elements-room}
+use Rattle.prover.proofs.Fine.{ProveFine, passed-fine, elements-room}
 use Rattle.prover.proofs.Weighed.{proof-same}
 use Rattle.prover.proofs.weigh.Statement.{statement}
 use Rattle.prover.proofs.weigh.Tie as tie
 
 lent : (c : tie.Start) → let a = c .args in ProveFine FIRST (a .key) (keySlices (a .h .now) (a .x .now) (a .y .now)) (a .positions .now) (a .u .now) (a .v .now) (a .r .now) (a .s .now) (a .alpha .now) (a .t .now) (a .a .now)
-lent c = let a = c .args in prove-fine FIRST (a .key) (keySlices (a .h .now) (a .x .now) (a .y .now)) (a .positions .now) (a .u .now) (a .v .now) (a .r .now) (a .s .now) (a .alpha .now) (a .t .now) (a .a .now) (c .pre .0)
+lent c = let a = c .args in passed-fine FIRST (a .key) (keySlices (a .h .now) (a .x .now) (a .y .now)) (a .positions .now) (a .u .now) (a .v .now) (a .r .now) (a .s .now) (a .alpha .now) (a .t .now) (a .a .now) (c .pre .0)
 
 tops-requires : tie.Need-tops-requires
 tops-requires c κs =

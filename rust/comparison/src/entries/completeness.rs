@@ -6,12 +6,13 @@
 //! wrote, honest numbers and honest mask numbers. It writes what prove writes,
 //! and answers as verify does, or the refusal of prove. In the place of the
 //! reference the answer follows from the positions, the key, the number and Δ
-//! alone: 8 when the positions don't solve the key, Accepted without a changed
-//! word, else Rejected, unless Δ is zero and the word isn't of coefficient 0.
+//! alone: 16 when a position is a spare code, else 8 when the positions don't
+//! solve the key, Accepted without a changed word, else Rejected, unless Δ is zero
+//! and the word isn't of coefficient 0.
 
 use super::keyed::{self, of_sample, Keyed};
 use super::witnesses::{self, OnWitness, Witness};
-use super::{prove, DONE, REFUSED, REJECTED, TOP};
+use super::{prove, DONE, REFUSED, REJECTED, SPARE, TOP};
 use crate::case::{Case, Entry, Group, Taken};
 use crate::lent::Lent;
 use crate::library;
@@ -27,7 +28,7 @@ pub struct Completeness;
 impl Keyed for Completeness {
     const READS: &'static [&'static str] = &[POSITIONS, U, V, R, S, ALPHA, DELTA];
     const WRITES: &'static [&'static str] = &[T, A];
-    const DONE: &'static [u32] = &[DONE, REJECTED, TOP];
+    const DONE: &'static [u32] = &[DONE, REJECTED, SPARE, TOP];
     const REFUSALS: &'static [Refusal] = &[];
 }
 
@@ -80,6 +81,7 @@ fn by_the_key(taken: &Taken, outputs: &mut Named<Lent>) -> u32 {
     prove::call(library::prove, taken, outputs);
     let zero = taken.words(DELTA).iter().all(|&word| word == 0);
     match taken.numbers[CHANGED] {
+        _ if witnesses::has_spare_code(taken) => SPARE,
         _ if !witnesses::solves(taken) => TOP,
         0 => DONE,
         changed if zero && changed > COORDINATES => DONE,
@@ -98,7 +100,7 @@ fn case((sample, answer): &Witness, word: usize, generator: &mut Generator) -> C
         generator,
     );
     // A changed word leaves no answer but that of the positions.
-    case.answering(answer.filter(|&answer| word == 0 || answer == TOP))
+    case.answering(answer.filter(|answer| word == 0 || [SPARE, TOP].contains(answer)))
 }
 
 impl OnWitness for Completeness {

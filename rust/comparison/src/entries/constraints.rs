@@ -1,5 +1,6 @@
 //! The entry constraints.
 
+use super::codes;
 use super::faults::fault_groups;
 use super::keyed::{self, after_key, fill, of_sample, set_key, Keyed};
 use super::rounds::{self, InRounds, Round};
@@ -57,7 +58,8 @@ pub const CONSTRAINTS: Entry = Entry {
             ALL_MASK_BITS,
         ];
         let rounds = rounds::groups::<Constraints>();
-        [own, rounds, fault_groups::<Constraints>()].concat()
+        let taken = codes::TAKEN.to_vec();
+        [own, rounds, taken, fault_groups::<Constraints>()].concat()
     },
     table: Some(keyed::table::<Constraints>()),
     least: rounds::least,

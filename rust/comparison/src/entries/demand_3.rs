@@ -11,7 +11,7 @@
 
 use super::keyed::{self, of_sample, sizes_of, Keyed};
 use super::witnesses::{self, OnWitness, Witness};
-use super::{constraints, DONE, REFUSED, TOP};
+use super::{constraints, DONE, REFUSED, SPARE, TOP};
 use crate::case::{Case, Entry, Taken};
 use crate::lent::Lent;
 use crate::library;
@@ -105,6 +105,8 @@ impl OnWitness for BothFacts {
     fn of_witness((sample, answer): &Witness, generator: &mut Generator) -> Case {
         let mut case = of_sample::<BothFacts>(sample, generator);
         keyed::fill_any(&mut case, &[&[U], &[V], &[DELTA]], generator);
-        case.answering(*answer)
+        // Constraints takes spare codes, and then some top is not zero.
+        let by_tops = |answer| if answer == SPARE { TOP } else { answer };
+        case.answering(answer.map(by_tops))
     }
 }

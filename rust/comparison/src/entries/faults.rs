@@ -3,7 +3,7 @@
 use super::keyed::{of_sizes, sizes, Keyed, EVERY_N};
 use crate::case::{decided, Case, Group};
 use crate::kinds::Kind;
-use crate::slices::{self, Elements, M, N};
+use crate::slices::{self, Elements, M, N, POSITIONS};
 use reference::key::Sizes;
 use reference::large_field::COORDINATES;
 use reference::samples::Generator;
@@ -33,6 +33,8 @@ pub enum Fault {
     Length(&'static str, usize),
     /// The input with this name has, in this place, this value.
     Element(&'static str, usize, u16),
+    /// The position in this place is this spare code.
+    Spare(usize, u16),
 }
 
 impl Fault {
@@ -43,6 +45,7 @@ impl Fault {
             Fault::Number(..) => Refusal::SizeN,
             Fault::Length(..) => Refusal::SliceLength,
             Fault::Element(name, ..) => slices::named(name).elements.refusal(),
+            Fault::Spare(..) => Refusal::SpareCode,
         }
     }
 
@@ -54,7 +57,7 @@ impl Fault {
     }
 
     /// Puts the fault into a case with d digits. A place that the slice doesn't
-    /// have becomes its last one.
+    /// have becomes its last one. A position that is too large stays.
     fn apply<E: Keyed>(self, case: &mut Case, d: usize, generator: &mut Generator) {
         match self {
             Fault::Number(name, number) => case.numbers[name] = number,
@@ -70,6 +73,13 @@ impl Fault {
                 let input = &mut case.inputs[name];
                 if !input.is_empty() {
                     input.set(place.min(input.len() - 1), value);
+                }
+            }
+            Fault::Spare(place, code) => {
+                let positions = &mut case.inputs[POSITIONS];
+                let place = place.min(positions.len().saturating_sub(1));
+                if !positions.is_empty() && positions.element(place) < 1 << d {
+                    positions.set(place, code);
                 }
             }
         }
@@ -168,6 +178,12 @@ fn faults<E: Keyed>(sizes: Sizes, many: bool, generator: &mut Generator) -> Vec<
             let values = values_above(slice.elements, sizes.d, many).into_iter();
             let fault = |value| Fault::Element(slice.name, place, value);
             list.extend(values.map(fault));
+        }
+    }
+    let Sizes { n, d, .. } = sizes;
+    if E::REFUSALS.contains(&Refusal::SpareCode) && n < 1 << d {
+        for place in [0, n - 1, generator.below(n)] {
+            list.extend([n, (1 << d) - 1].map(|code| Fault::Spare(place, code as u16)));
         }
     }
     list

@@ -1,7 +1,7 @@
 //! The entries that are compared.
 //!
-//! - [`keyed`], [`faults`], [`lengths`], [`rounds`] and [`witnesses`]: what the
-//!   entries that take a key have in common;
+//! - [`codes`], [`keyed`], [`faults`], [`lengths`], [`rounds`] and [`witnesses`]:
+//!   what the entries that take a key have in common;
 //! - [`files`]: what the entries that take the bytes of a file have in common;
 //! - the others: one entry, or a few of one form.
 
@@ -10,6 +10,7 @@ use reference::large_field::COORDINATES;
 use reference::Refusal;
 
 pub mod check;
+pub mod codes;
 pub mod completeness;
 pub mod constraints;
 pub mod demand_3;
@@ -48,6 +49,9 @@ const DONE: u32 = 0;
 
 /// 8: "some top coefficient of the n + m polynomials isn't zero".
 const TOP: u32 = 8;
+
+/// 16: "when prove is lent a spare code and none is too large".
+const SPARE: u32 = 16;
 
 /// The answer Rejected of verify and check.
 const REJECTED: u32 = 255;

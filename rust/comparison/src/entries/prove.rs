@@ -1,11 +1,12 @@
 //! The entry prove.
 
+use super::codes::{self, ONE_SPARE, ONE_TOO_LARGE};
 use super::faults::{fault_groups, one_fault};
 use super::keyed::{self, after_key, of_sample, Keyed};
 use super::lengths::empty_slices;
 use super::rounds::{self, InRounds, Round};
-use super::witnesses::{self, spare_code, two_indices, OnWitness, Witness};
-use super::{number, stated, stated_element, DONE, TOP};
+use super::witnesses::{self, two_indices, OnWitness, Witness};
+use super::{number, stated, stated_element, DONE, SPARE, TOP};
 use crate::case::{Case, Entry, Group, Least, Taken};
 use crate::kinds::Kind;
 use crate::lent::Lent;
@@ -23,7 +24,8 @@ pub struct Prove;
 impl Keyed for Prove {
     const READS: &'static [&'static str] = &[POSITIONS, U, V, R, S, ALPHA];
     const WRITES: &'static [&'static str] = &[T, A];
-    const REFUSALS: &'static [Refusal] = after_key!(Bit, Coordinate, Position, TopCoefficient);
+    const REFUSALS: &'static [Refusal] =
+        after_key!(Bit, Coordinate, Position, SpareCode, TopCoefficient);
 
     fn right(sizes: Sizes, generator: &mut Generator) -> Case {
         let sample = Sample::solving(sizes.n, sizes.m, generator);
@@ -82,11 +84,13 @@ pub const PROVE: Entry = Entry {
             EXAMPLES,
             witnesses::solving::<Prove>(),
             witnesses::others::<Prove>(),
-            ONE_COLUMN,
+            TWO_COLUMNS,
             ONE_ROW,
             SMALL_N,
             EXTREMES,
             UNSOLVED,
+            ONE_SPARE,
+            ONE_TOO_LARGE,
             witnesses::all_positions::<Prove>(),
             one_fault::<Unsolved>().named("one fault, positions that do not solve the key"),
             empty_slices::<Unsolved>().named("empty slices, positions that do not solve the key"),
@@ -102,7 +106,7 @@ pub const PROVE: Entry = Entry {
             answer: TOP,
             count: 12,
         };
-        [rounds::least(), vec![unsolved]].concat()
+        [rounds::least(), codes::least(), vec![unsolved]].concat()
     },
     table: Some(keyed::table::<Prove>()),
     ..keyed::ENTRY
@@ -152,7 +156,7 @@ const EXAMPLES: Group = Group::new("examples of the specification", |generator, 
     // For n = 3 the key and the material are free.
     for round in 0..20 {
         for (positions, answer) in [
-            (vec![0, 1, 3], TOP),
+            (vec![0, 1, 3], SPARE),
             (vec![1, 1, 1], TOP),
             (vec![0, 1, 4], Refusal::Position.number()),
         ] {
@@ -163,13 +167,15 @@ const EXAMPLES: Group = Group::new("examples of the specification", |generator, 
     }
 });
 
-const ONE_COLUMN: Group = Group::new("each column alone with a top of one", |generator, each| {
+// Where all positions are columns, the number of columns with a top of one is even.
+const TWO_COLUMNS: Group = Group::new("two columns alone with tops of one", |generator, each| {
     for n in [3, 5, 6, 7, 9, 17] {
         let m = 1 + generator.below(n - 1);
         for i in 0..n {
-            // Position i is a spare code, and the rows of H are solved.
+            // Position i is that of another row, and the rows of H are solved.
             let mut sample = Sample::solving(n, m, generator);
-            sample.positions[i] = spare_code(&sample, generator).expect("n is no power of two");
+            let other = (i + 1 + generator.below(n - 1)) % n;
+            sample.positions[i] = sample.positions[other];
             sample.h = witnesses::solved_rows(&sample, Kind::Random, generator);
             each(case(&sample, Some(TOP), generator));
         }
@@ -240,11 +246,11 @@ const EXTREMES: Group = Group::new(keyed::EXTREMES, |generator, each| {
     });
 });
 
-/// The sizes of the next group, without and with spare codes.
+/// The sizes of the next group.
 const UNSOLVED_N: [usize; 2] = [rounds::LARGEST, rounds::ABOVE_A_POWER[0]];
 
 const UNSOLVED: Group = Group::new(
-    "n = 64 and 33, a position repeated or spare, or one row of H",
+    "n = 64 and 33, a position repeated, or one row of H",
     |generator, each| {
         for n in UNSOLVED_N {
             for number in 0..12 {
@@ -270,10 +276,7 @@ fn unsolved_in(mut round: Round, generator: &mut Generator) -> Sample {
     let (from, to) = two_indices(n, generator);
     match number % 4 {
         0 => sample.positions[to] = sample.positions[from],
-        1 => match spare_code(&sample, generator) {
-            Some(code) => sample.positions[to] = code,
-            None => sample.positions[n - 1] = sample.positions[0],
-        },
+        1 => sample.positions[n - 1] = sample.positions[0],
         _ => {
             let e = [0, m - 1, generator.below(m)][number % 3];
             let bit = generator.below(11);

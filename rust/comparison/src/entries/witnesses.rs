@@ -2,7 +2,7 @@
 
 use super::keyed::{self, Keyed};
 use super::rounds::Round;
-use super::{DONE, TOP};
+use super::{DONE, SPARE, TOP};
 use crate::case::{Case, Group, Taken};
 use crate::kinds::{Kind, Wanted};
 use crate::slices::POSITIONS;
@@ -65,6 +65,12 @@ pub fn entries(x: &[u16], positions: &[u8]) -> Vec<u16> {
 /// Whether the positions of a call solve its key.
 pub fn solves(taken: &Taken) -> bool {
     samples::solved(taken.key(), taken.bytes(POSITIONS))
+}
+
+/// Whether some position of a call is a spare code; none is too large.
+pub fn has_spare_code(taken: &Taken) -> bool {
+    let mut positions = taken.bytes(POSITIONS).iter();
+    positions.any(|&position| usize::from(position) >= taken.key().n)
 }
 
 /// H of this kind, each row of which has this sum for the positions of the
@@ -159,8 +165,8 @@ fn other_positions(n: usize, generator: &mut Generator) -> Vec<Witness> {
     ];
     if let Some(code) = spare_code(&sample, generator) {
         spare[to] = code;
-        list.push((with(&sample, spare.clone()), Some(TOP)));
-        list.push((with(&solved, spare), Some(TOP)));
+        list.push((with(&sample, spare.clone()), Some(SPARE)));
+        list.push((with(&solved, spare), Some(SPARE)));
     }
     if n > keyed::ALL_VARIANTS {
         let every_other = list.into_iter().skip(n % 2).step_by(2);

@@ -61,7 +61,8 @@ fn modelled_lines(sample: &Sample, prefix: &str) -> String {
     text
 }
 
-/// The sample with positions below 2^d for which prove answers 8.
+/// The sample with positions below 2^d for which prove answers 8 or, where some
+/// are spare codes, 16.
 fn unsolved(sample: &Sample, generator: &mut Generator) -> Sample {
     let codes = 1usize << sample.d;
     loop {

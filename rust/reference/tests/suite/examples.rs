@@ -107,8 +107,8 @@ fn example_10_positions_0_1_3() {
     let sample = three(&[0, 1, 3]);
     let (_, polynomials) = constraints_of(&sample);
     assert_eq!(tops(&polynomials), [0, 0, 1, 0]);
-    assert_eq!(sample.proof(), Err(Refusal::TopCoefficient));
-    assert_eq!(Refusal::TopCoefficient.number(), 8);
+    assert_eq!(sample.proof(), Err(Refusal::SpareCode));
+    assert_eq!(Refusal::SpareCode.number(), 16);
     // The same key with the third position put right is solved.
     assert!(three(&[0, 1, 2]).proof().is_ok());
 }
@@ -120,6 +120,7 @@ fn example_11_key_a_positions_1_0() {
     let (_, polynomials) = constraints_of(&sample);
     assert_eq!(tops(&polynomials), [0, 0, 5]);
     assert_eq!(sample.proof(), Err(Refusal::TopCoefficient));
+    assert_eq!(Refusal::TopCoefficient.number(), 8);
 }
 
 #[test]
@@ -333,7 +334,7 @@ fn coefficients_of_one_row() {
 #[test]
 fn numbers_of_the_refusals() {
     let numbers = Refusal::ALL.map(Refusal::number);
-    assert_eq!(numbers, [1, 2, 3, 4, 5, 6, 7, 8, 9, 10, 11, 12, 14, 19]);
+    assert_eq!(numbers, [1, 2, 3, 4, 5, 6, 7, 8, 9, 10, 11, 12, 14, 16, 19]);
 }
 
 /// The lines of `examples_run` that the specification states.
@@ -359,7 +360,7 @@ fn text_of_examples_run() {
         ("n = 3, positions 1 1 1, constraints: done", "tops 1 0 1 1"),
         ("n = 3, positions 1 1 1, prove:", " refused 8"),
         ("n = 3, positions 0 1 3, constraints: done", "tops 0 0 1 0"),
-        ("n = 3, positions 0 1 3, prove:", " refused 8"),
+        ("n = 3, positions 0 1 3, prove:", " refused 16"),
         ("key A, positions 1 0, constraints: done", "tops 0 0 5"),
         ("key A, positions 1 0, prove:", " refused 8"),
         ("n = 3, positions 0 1 4, constraints:", " refused 7"),

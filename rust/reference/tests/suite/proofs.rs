@@ -1,6 +1,7 @@
 //! prove and verify.
 
-use crate::{constraints_of, large, values_of, verdict_of};
+use crate::{constraints_of, large, tops, values_of, verdict_of};
+use reference::key::number_of_digits;
 use reference::large_field::{COORDINATES, K};
 use reference::samples::{independent, Generator, Lent, Material, Sample};
 use reference::{Refusal, Verdict};
@@ -221,5 +222,66 @@ fn a_wrong_top_in_each_polynomial_is_found() {
         assert!(sample.proof().is_ok());
         let differing: Vec<usize> = (0..4).filter(|&k| y[k] != sample.y[k]).collect();
         assert_eq!(differing, [e]);
+    }
+}
+
+/// Each number of a byte that is no column, for every n: "n to 2^d - 1" is a spare
+/// code, which constraints takes and prove does not, and more is too large.
+#[test]
+fn spare_codes_are_told_from_columns() {
+    let mut generator = Generator::new(27);
+    let mut spare_codes = 0;
+    for n in 2..=64 {
+        let sample = Sample::solving(n, 1, &mut generator);
+        for position in n..256 {
+            let mut sample = sample.clone();
+            sample.positions[generator.below(n)] = position as u8;
+            let is_spare = position < 1 << sample.d;
+            let refusal = match is_spare {
+                true => Refusal::SpareCode,
+                false => Refusal::Position,
+            };
+            assert_eq!(sample.proof(), Err(refusal), "n = {n}, position {position}");
+            spare_codes += usize::from(is_spare);
+        }
+    }
+    // 2^d is 2 once, then 4 twice, 8 four times, .., 64 for 32 of them.
+    let codes: usize = (0..6).map(|k| (2 << k) << k).sum();
+    let columns: usize = (2..=64).sum();
+    assert_eq!(spare_codes, codes - columns);
+}
+
+/// "none is too large": one that is decides, wherever spare codes stand.
+#[test]
+fn a_position_too_large_among_spare_codes() {
+    let mut generator = Generator::new(28);
+    for n in [3, 5, 6, 33, 50, 63] {
+        let sample = Sample::solving(n, 2, &mut generator);
+        for place in 0..n {
+            let mut sample = sample.clone();
+            sample.positions.fill(n as u8);
+            assert_eq!(sample.proof(), Err(Refusal::SpareCode), "n = {n}");
+            sample.positions[place] = 1 << sample.d;
+            assert_eq!(sample.proof(), Err(Refusal::Position), "n = {n}");
+            assert_eq!(sample.constraints(), Err(Refusal::Position), "n = {n}");
+        }
+    }
+}
+
+/// "the truth about top coefficients keeps covering them": constraints takes a
+/// spare code, and the column that no position names has a top of one.
+#[test]
+fn the_tops_of_a_spare_code() {
+    let mut generator = Generator::new(29);
+    for n in [3, 5, 6, 7, 9, 17] {
+        for code in n..1 << number_of_digits(n - 1) {
+            let mut sample = Sample::solving(n, 1, &mut generator);
+            let row = generator.below(n);
+            let column = usize::from(sample.positions[row]);
+            sample.positions[row] = code as u8;
+            let tops = tops(&constraints_of(&sample).1);
+            let of_columns: Vec<u16> = (0..n).map(|j| u16::from(j == column)).collect();
+            assert_eq!(tops[..n], of_columns, "n = {n}, code {code}");
+        }
     }
 }

@@ -106,7 +106,7 @@ const ENTRIES: [Entry; 4] = [
         name: "prove",
         inputs: &["positions", "u", "v", "r", "s", "alpha"],
         outputs: &["t_out", "a_out"],
-        order: &[1, 2, 3, 4, 5, 6, 7, 8],
+        order: &[1, 2, 3, 4, 5, 6, 7, 16, 8],
         run: |Call { inputs, outputs }| {
             let k = &inputs.sample;
             let (r, s, alpha) = (&k.r, &k.s, &k.alpha);
@@ -215,6 +215,20 @@ fn value_faults(name: &'static str, length: usize, d: usize) -> Vec<Fault> {
     list
 }
 
+/// Positions that are spare codes, at the first and the last place, where n
+/// leaves some.
+fn spare_faults(n: usize, d: usize) -> Vec<Fault> {
+    let mut list = Vec::new();
+    for code in n..1 << d {
+        for place in [0, n - 1] {
+            let label = format!("the spare code {code} at {place}");
+            let change = move |call: &mut Call| call.inputs.sample.positions[place] = code as u8;
+            list.push(Fault::new(16, label, change));
+        }
+    }
+    list
+}
+
 /// Positions, rows of H and targets that are no solution.
 fn top_faults() -> [Fault; 3] {
     [
@@ -244,6 +258,9 @@ fn faults(entry: &Entry, call: &Call) -> Vec<Fault> {
         if !entry.outputs.contains(&name) {
             list.extend(value_faults(name, length, d));
         }
+    }
+    if entry.order.contains(&16) {
+        list.extend(spare_faults(n, d));
     }
     if entry.order.contains(&8) {
         list.extend(top_faults());

@@ -77,7 +77,7 @@ module _ (n : ℕ) (fits : n ≤ 2 ^ degree n) where
       cases false true p q = omega (arith, ltb-false a (2 ^ 8) p, ltb-true b (2 ^ 8) q)
       cases false false p q = omega (arith, ltb-false a (2 ^ 8) p, ltb-false b (2 ^ 8) q)
 
-  -- which positions a case leaves
+  -- where none is too large, and where all are columns
   pub codes-lt : (s : List ℕ) → isTooLarge (codesOf n s) ≡ false → (k : ℕ) → getD s k 0 < 2 ^ degree n
   codes-lt s e k = below-lt (degree n) s (go (all (λ p. ltb p n) s) (below (degree n) s) (all-codes s) (ap isTooLarge (sym (by-tests s)) ∙ e)) k
     where
@@ -89,7 +89,7 @@ module _ (n : ℕ) (fits : n ≤ 2 ^ degree n) where
   pub columns : (s : List ℕ) → ((k : ℕ) → k < length s → getD s k 0 < n) → codesOf n s ≡ Column
   columns s h = by-tests s ∙ ap (λ c. byTests c (below (degree n) s)) (all-from (λ p. ltb p n) s (λ k l. lt-ltb (getD s k 0) n (h k l)))
 
--- a spare code is among positions of which the case is that one, and none of which is too large
+-- positions whose case is Spare have a spare code among them, and the other way round where none is too large
 module _ (n : ℕ) where
   pub some-spare : (s : List ℕ) → isSpare (codesOf n s) ≡ true → (i : ℕ) × (i < length s) × (codeOf n (getD s i 0) ≡ Spare)
   unfolding codesOf
@@ -148,9 +148,3 @@ taken true true false c = refl
 taken true true true Column = refl
 taken true true true Spare = refl
 taken true true true TooLarge = refl
-
--- what is neither too large nor a spare code
-pub column : (c : Code) → isTooLarge c ≡ false → isSpare c ≡ false → c ≡ Column
-column Column e f = refl
-column Spare e f = absurd (false≢true (sym f))
-column TooLarge e f = absurd (false≢true (sym e))

@@ -120,9 +120,9 @@ isTooLarge Column = false
 isTooLarge Spare = false
 isTooLarge TooLarge = true
 
--- places 'key' and 'material', a row for each number; of words and bytes whether they are in order, of positions what they are: 4 "an element of
--- H or x is above 2047", or of y, 5 "a byte of u or t is above 1", 6 "a coordinate of an element of K is above 2047", 7 "a position is
--- 2^d or more". "Constraints still takes spare codes": none of these rows applies to them
+-- places 'key' and 'material', a row for each number; of words and bytes whether they are in order, of positions what they are, Column where an
+-- entry takes none: 4 "an element of H or x is above 2047", or of y, 5 "a byte of u or t is above 1", 6 "a coordinate of an element of K is above
+-- 2047", 7 "a position is 2^d or more". "Constraints still takes spare codes": no row applies to them
 abbrev pub contents : (key bits coordinates : Bool) (positions : Code) → List (Bool × ℕ)
 contents key bits coordinates positions = (not key, 4) ∷ (not bits, 5) ∷ (not coordinates, 6) ∷ (isTooLarge positions, 7) ∷ []
 

@@ -4,24 +4,16 @@
 
 mod common;
 
-use common::passes;
-use comparison::case::{Call, Entry, Group, Taken};
+use common::{passes, with_library};
+use comparison::case::{Call, Group, Taken};
 use comparison::entries::codes::{ONE_SPARE, ONE_TOO_LARGE, TAKEN};
 use comparison::entries::constraints::CONSTRAINTS;
 use comparison::entries::prove::PROVE;
 use comparison::slices::{N, POSITIONS};
 
-/// Whether the entry passes these groups with another library.
-fn with_library(entry: Entry, library: Call, groups: fn() -> Vec<Group>) -> bool {
-    let entry = Entry {
-        refusals: &[],
-        table: None,
-        least: Vec::new,
-        library,
-        groups,
-        ..entry
-    };
-    passes(&entry, None)
+/// Whether prove passes with this function in the place of the library.
+fn prove_passes(library: Call) -> bool {
+    passes(&with_library(PROVE, library, of_prove), None)
 }
 
 /// The groups of prove.
@@ -38,75 +30,59 @@ fn no_columns(taken: &Taken) -> (Vec<usize>, usize) {
 
 #[test]
 fn no_fault() {
-    assert!(with_library(PROVE, PROVE.reference, of_prove));
+    assert!(prove_passes(PROVE.reference));
 }
 
 #[test]
 fn n_taken_for_a_column() {
-    assert!(!with_library(
-        PROVE,
-        |taken, outputs| {
-            let (others, n) = no_columns(taken);
-            match (PROVE.reference)(taken, outputs) {
-                16 if others.iter().all(|&position| position == n) => 8,
-                answer => answer,
-            }
-        },
-        of_prove
-    ));
+    assert!(!prove_passes(|taken, outputs| {
+        let (others, n) = no_columns(taken);
+        match (PROVE.reference)(taken, outputs) {
+            16 if others.iter().all(|&position| position == n) => 8,
+            answer => answer,
+        }
+    }));
 }
 
 #[test]
 fn a_spare_code_in_the_last_place_not_seen() {
-    assert!(!with_library(
-        PROVE,
-        |taken, outputs| {
-            let (others, n) = no_columns(taken);
-            let last = usize::from(taken.bytes(POSITIONS)[n - 1]);
-            match (PROVE.reference)(taken, outputs) {
-                16 if others == [last] => 8,
-                answer => answer,
-            }
-        },
-        of_prove
-    ));
+    assert!(!prove_passes(|taken, outputs| {
+        let (others, n) = no_columns(taken);
+        let last = usize::from(taken.bytes(POSITIONS)[n - 1]);
+        match (PROVE.reference)(taken, outputs) {
+            16 if others == [last] => 8,
+            answer => answer,
+        }
+    }));
 }
 
 #[test]
 fn a_spare_code_before_one_too_large() {
-    assert!(!with_library(
-        PROVE,
-        |taken, outputs| {
-            let (others, _) = no_columns(taken);
-            match (PROVE.reference)(taken, outputs) {
-                7 if others[0] < others[others.len() - 1] => 16,
-                answer => answer,
-            }
-        },
-        of_prove
-    ));
+    assert!(!prove_passes(|taken, outputs| {
+        let (others, _) = no_columns(taken);
+        match (PROVE.reference)(taken, outputs) {
+            7 if others[0] < others[others.len() - 1] => 16,
+            answer => answer,
+        }
+    }));
 }
 
 #[test]
 fn the_top_before_a_spare_code() {
-    assert!(!with_library(
-        PROVE,
-        |taken, outputs| match (PROVE.reference)(taken, outputs) {
+    assert!(!prove_passes(|taken, outputs| {
+        match (PROVE.reference)(taken, outputs) {
             16 => 8,
             answer => answer,
-        },
-        of_prove
-    ));
+        }
+    }));
 }
 
 #[test]
 fn constraints_refuses_spare_codes() {
-    assert!(!with_library(
-        CONSTRAINTS,
-        |taken, outputs| match no_columns(taken).0.is_empty() {
-            true => (CONSTRAINTS.reference)(taken, outputs),
-            false => 16,
-        },
-        || TAKEN[..1].to_vec()
-    ));
+    let refusing: Call = |taken, outputs| match no_columns(taken).0.is_empty() {
+        true => (CONSTRAINTS.reference)(taken, outputs),
+        false => 16,
+    };
+    let entry = with_library(CONSTRAINTS, refusing, || TAKEN[..1].to_vec());
+    assert!(!passes(&entry, None));
 }

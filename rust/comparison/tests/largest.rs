@@ -4,7 +4,7 @@
 
 mod common;
 
-use common::passes;
+use common::{passes, with_library};
 use comparison::case::{Call, Entry, Group, Taken};
 use comparison::entries::constraints::{Constraints, CONSTRAINTS};
 use comparison::entries::prove::{Prove, PROVE};
@@ -19,18 +19,6 @@ use reference::large_field::COORDINATES;
 /// The many rounds at the largest size alone.
 fn only_largest<E: InRounds>() -> Vec<Group> {
     vec![at_largest::<E>()]
-}
-
-/// The entry with another library, in these groups alone.
-fn with_library(entry: Entry, library: Call, groups: fn() -> Vec<Group>) -> Entry {
-    Entry {
-        refusals: &[],
-        table: None,
-        least: Vec::new,
-        library,
-        groups,
-        ..entry
-    }
 }
 
 /// Whether a word is one of the eighth that the faults are for.

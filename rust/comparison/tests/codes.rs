@@ -5,20 +5,35 @@
 mod common;
 
 use common::{passes, with_library};
-use comparison::case::{Call, Group, Taken};
+use comparison::case::{Call, Entry, Group, Taken};
 use comparison::entries::codes::{ONE_SPARE, ONE_TOO_LARGE, TAKEN};
 use comparison::entries::constraints::CONSTRAINTS;
-use comparison::entries::prove::PROVE;
+use comparison::entries::keyed::{self, Keyed};
+use comparison::entries::prove::{Prove, PROVE};
 use comparison::slices::{N, POSITIONS};
+use reference::Refusal;
+
+/// Calls that no refusal applies to, as a run has to have some.
+const DONE: Group = Group::new("done", |generator, each| {
+    for _ in 0..2_000 {
+        each(Prove::right(keyed::sizes(2, 1), generator));
+    }
+});
 
 /// Whether prove passes with this function in the place of the library.
 fn prove_passes(library: Call) -> bool {
-    passes(&with_library(PROVE, library, of_prove), None)
+    let groups = || vec![ONE_SPARE, ONE_TOO_LARGE, DONE];
+    let entry = Entry {
+        refusals: &[Refusal::Position, Refusal::SpareCode],
+        ..with_library(PROVE, library, groups)
+    };
+    passes(&entry, None)
 }
 
-/// The groups of prove.
-fn of_prove() -> Vec<Group> {
-    vec![ONE_SPARE, ONE_TOO_LARGE]
+/// Whether constraints passes with this function in the place of the library.
+fn constraints_passes(library: Call) -> bool {
+    let groups = || TAKEN[..1].to_vec();
+    passes(&with_library(CONSTRAINTS, library, groups), None)
 }
 
 /// The positions of a call that are n or more, and n.
@@ -31,6 +46,7 @@ fn no_columns(taken: &Taken) -> (Vec<usize>, usize) {
 #[test]
 fn no_fault() {
     assert!(prove_passes(PROVE.reference));
+    assert!(constraints_passes(CONSTRAINTS.reference));
 }
 
 #[test]
@@ -79,10 +95,10 @@ fn the_top_before_a_spare_code() {
 
 #[test]
 fn constraints_refuses_spare_codes() {
-    let refusing: Call = |taken, outputs| match no_columns(taken).0.is_empty() {
-        true => (CONSTRAINTS.reference)(taken, outputs),
-        false => 16,
-    };
-    let entry = with_library(CONSTRAINTS, refusing, || TAKEN[..1].to_vec());
-    assert!(!passes(&entry, None));
+    assert!(!constraints_passes(|taken, outputs| {
+        match no_columns(taken).0.is_empty() {
+            true => (CONSTRAINTS.reference)(taken, outputs),
+            false => 16,
+        }
+    }));
 }

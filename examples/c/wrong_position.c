@@ -1,6 +1,6 @@
 /*
- * For card makers: what a card hears of one position. A key with n = 50, so that d is 6 and 50 to 63 are spare codes, which every
- * order of its columns solves; the order is 0 to 49 with one position changed.
+ * For card makers: what a card hears of one position. The key has n = 50, so that d is 6 and the positions 50 to 63 are spare codes,
+ * and every order of its columns solves it. The order is 0 to 49 with one position changed.
  *
  *   gcc -I../../include wrong_position.c ../../target/staticlib/libperk.a -o wrong_position
  *   ./wrong_position 7 7      (done)           ./wrong_position 7 53     (refused 16: no column)

@@ -68,7 +68,7 @@ fn constraints_refused(
         return Answer::Refused(Refusal::SLICE_LENGTH);
     }
     let elements = key::excess(h, x, y, FIRST);
-    // Spare codes are taken: what is left of their number is that of a column.
+    // Spare codes are taken: the digit of TooLarge alone is kept, which their number does not have.
     let code = key.codes(positions) & Code::TOO_LARGE;
     key::contents(elements, key::over(u, 1), field::excess(v, FIRST), code)
 }

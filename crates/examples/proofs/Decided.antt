@@ -56,6 +56,6 @@ module _ (key : Numbers) (positions : List ℕ) where
   left e = result-of (proveRows first (sizes key) lent positions u (bares v) (bares r) (bares s) (bares α) (t₀ key) (a₀ key) ++ topsRow first (sizes key) lent positions (bares v))
       (proveResult first (sizes key) lent positions u (bares v) (bares r) (bares s) (bares α)) (t₀ key, a₀ key) refl e
 
--- position 2 is a spare code
+-- the last of the positions 0 1 3 is a spare code
 pub three-16 : proveOf three (0 ∷ 1 ∷ 3 ∷ []) .0 ≡ refusal 16
 three-16 = answers-16 three (0 ∷ 1 ∷ 3 ∷ []) (unfold bares degree leadingZeros below codesOf codeOf within all in refl) (2, omega arith, unfold codeOf degree leadingZeros in refl)

@@ -3,7 +3,6 @@ use mathlib.Core.List.{List, [], _∷_, _++_}
 use Prim.Native.Nat.{ℕ, suc, _+_, _*_}
 use lib.ListN.{set, replicate}
 use Rattle.lists.specs.Words.{part, concat}
-use Rattle.field.specs.Ring.{Ring}
 use Rattle.field.specs.Level.{first, F, K}
 use Rattle.field.specs.Word.{small, word, element, words}
 use Rattle.refusal.specs.Answer.{numberOf}

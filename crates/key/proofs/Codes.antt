@@ -12,7 +12,7 @@ use lib.ListN.{length, getD, take}
 use lib.Pow.{pow-mono}
 use Rattle.refusal.specs.Answer.{firstOf}
 use Rattle.lists.specs.Words.{all}
-use Rattle.lists.proofs.Words.{all-more, all-from, all-everywhere}
+use Rattle.lists.proofs.Words.{all-more, all-from}
 use Rattle.field.proofs.Limit.{or-below}
 use Rattle.key.specs.declared.Code.{Code}
 use Rattle.key.specs.declared.Code.the-variants.{Column, Spare, TooLarge}
@@ -37,7 +37,7 @@ pub power-le : (n : ℕ) → 1 ≤ n → n ≤ 256 → (degree n < 64) × (2 ^ d
 power-le n h k = let d = degree-lt n 9 h (omega arith) (omega arith) in (omega (arith, d), pow-mono {i = degree n} {j = 8} (omega (arith, d)))
 
 -- by whether all are below n and whether all are below 2^d
-abbrev pub byTests : (columns codes : Bool) → Code
+abbrev byTests : (columns codes : Bool) → Code
 byTests columns codes = cond columns Column (cond codes Spare TooLarge)
 
 -- the two tests of a position, or of positions: what passes the first passes the second
@@ -57,12 +57,12 @@ module _ (n : ℕ) (fits : n ≤ 2 ^ degree n) where
   one : (p : ℕ) → Implies (ltb p n) (ltb p (2 ^ degree n))
   one p e = lt-ltb p (2 ^ degree n) (omega (arith, ltb-true p n e))
 
-  pub all-codes : (s : List ℕ) → all (λ p. ltb p n) s ≡ true → below (degree n) s ≡ true
+  all-codes : (s : List ℕ) → all (λ p. ltb p n) s ≡ true → below (degree n) s ≡ true
   unfolding all below
   all-codes [] e = refl
   all-codes (p ∷ s) e = let b = and-eq-true-iff (ltb p n) (all (λ p. ltb p n) s) .0 e in ap₂ _&&_ (one p (b .0)) (all-codes s (b .1))
 
-  pub by-tests : (s : List ℕ) → codesOf n s ≡ byTests (all (λ p. ltb p n) s) (below (degree n) s)
+  by-tests : (s : List ℕ) → codesOf n s ≡ byTests (all (λ p. ltb p n) s) (below (degree n) s)
   unfolding codesOf codeOf all below
   by-tests [] = refl
   by-tests (p ∷ s) = ap (higher (codeOf n p)) (by-tests s) ∙ higher-tests (ltb p n) (ltb p (2 ^ degree n)) (all (λ p. ltb p n) s) (below (degree n) s) (one p) (all-codes s)

@@ -1,4 +1,4 @@
--- The key: its sizes, d, and when it is well formed.
+-- The key: its sizes, d, when it is well formed, and what positions are.
 use mathlib.Core.Bool.{Bool, true, false, not, cond, _&&_}
 use mathlib.Core.List.{List, [], _∷_}
 use Prim.Native.Nat.{ℕ, zero, suc, _+_, _-_, _*_, _^_, _≤_, _<_}

@@ -126,9 +126,10 @@ fn reach(position: u8, limit: usize) -> u16
 }
 
 impl Code {
-    // The numbers of the cases Column and TooLarge.
+    // The number of Column.
     pub const COLUMN: u8 = 0;
 
+    // The number of TooLarge, which has a digit that the others do not have.
     pub const TOO_LARGE: u8 = 2;
 
     // The case with this number.

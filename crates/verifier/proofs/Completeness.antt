@@ -8,9 +8,7 @@ use Rattle.lists.specs.Lent.{long}
 use Rattle.lists.proofs.Lent.{Long, each-long, long-each}
 use Rattle.refusal.specs.Answer.{firstOf}
 use Rattle.refusal.specs.Verdict.{judged}
-use Rattle.refusal.specs.declared.Answer.{Answer}
 use Rattle.refusal.specs.declared.Answer.the-variants.{Done}
-use Rattle.refusal.specs.declared.Verdict.the-variants.{Accepted}
 use Rattle.refusal.proofs.Answers.{result-of}
 use Rattle.field.specs.declared.Level.{Level}
 use Rattle.field.specs.Level.{levelAt, K}

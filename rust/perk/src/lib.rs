@@ -324,9 +324,9 @@ pub fn values(
 /// positions solve the key, and that refusal exactly when they do not; where
 /// none of those before [`Refusal::SpareCode`] applies, it returns that refusal
 /// exactly when a position is a spare code, and such positions never solve a
-/// key. And wherever it returns `Ok`, [`verify`] accepts `t` and `a` with the same key
-/// and weights, any challenge delta, each q(i,k) = u(i,k) delta + v(i,k) and
-/// each masks(k) = s(k) delta + r(k).
+/// key. And wherever it returns `Ok`, [`verify`] accepts `t` and `a` with the
+/// same key and weights, any challenge delta, each q(i,k) = u(i,k) delta +
+/// v(i,k) and each masks(k) = s(k) delta + r(k).
 ///
 /// No jump and no address depends on positions, u, v, r or s, other than the
 /// decision to refuse; this is tested, not proved. The stack is not wiped:

@@ -1,4 +1,3 @@
-use mathlib.Core.Bool.{true}
 use mathlib.Core.List.{[], _∷_}
 use Rattle.lists.specs.Lent.{long}
 use Rattle.refusal.specs.Answer.{firstOf}

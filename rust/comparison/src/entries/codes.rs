@@ -127,9 +127,10 @@ pub const TAKEN: [Group; 2] = [
         taken(2..=OF_REFERENCE, generator, each);
     }),
     Group::new(
-        "n = 33 to 63, each spare code, by packed",
+        "n from 33 on, each spare code, by packed",
         |generator, each| {
-            taken(OF_REFERENCE + 1..=63, generator, each);
+            let last = *keyed::EVERY_N.end();
+            taken(OF_REFERENCE + 1..=last, generator, each);
         },
     )
     .by_packed(),

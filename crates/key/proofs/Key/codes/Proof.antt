@@ -2,7 +2,6 @@ use lib.Bits.{or-lt}
 use lib.Dec.{ltb}
 use lib.Seq.{take-all}
 use Rattle.lists.specs.Words.{all}
-use Rattle.lists.proofs.Words.{all-more}
 use Rattle.key.specs.Key.{degree, below}
 use Rattle.key.proofs.Sized.{degree-fits}
 use Rattle.key.proofs.Codes.{joined, power-le, number}

@@ -14,10 +14,10 @@
  *
  *     if (perk_verify(..) == PERK_ACCEPTED) ..       and not: if (perk_verify(..)) ..
  *
- * Any other number is a refusal, 1 to 12, 14, 16 or 19, and then every output holds what it held before. Refusals are tried
- * in the order in which a function lists them; the first that applies is the result. Sizes and lengths are decided before
- * any slice is read, so that a length in bytes for one in words is refused with 3; this is tested, and not part of the
- * proof.
+ * Any other number is a refusal, 1 to 12, 14, 15, 16 or 19, and then every output holds what it held before. Refusals are
+ * tried in the order in which a function lists them; the first that applies is the result. Sizes and lengths are decided
+ * before any slice is read, so that a length in bytes for one in words is refused with 3; this is tested, and not part of
+ * the proof.
  *
  * Numbers. An element of F is a number 0 to 2047 whose bit i is the coefficient of z^i, with z^11 = z^2 + 1. An element
  * of K is PERK_ELEMENT_WORDS = 12 words, coordinate 0 first, each an element of F, with Y^12 = Y^3 + 1; several elements
@@ -26,6 +26,13 @@
  * A key is n, m, H, x and y: n is 2 to 64, m is 1 to n - 1, H has m rows of n elements of F, row after row, x has n
  * elements of F, and the target y has m. d = PERK_DIGITS(n) is the number of binary digits of n - 1. Bits, offsets and q
  * have d places for each of n rows, row after row, place 0 (the highest digit) first.
+ *
+ * Rows that lean. The rows of H lean on each other where some coefficients from F, not all zero, combine them to zero: one
+ * is a multiple of another, or a sum of multiples of others, or all zero, which is the only way where m is 1. A row that
+ * leans asks nothing of an order that the others do not ask, where its element of y fits, as with a y of zeros, so that
+ * more orders solve such a key than its m rows seem to let; where it does not fit, none does. Such a key is not well
+ * formed: every function that takes a key, the readers of files included, refuses it with 15, and tests that in memory of
+ * its own. perk_rank tells how many rows do not lean, and refuses none for it.
  *
  * Positions. Position i says which entry of x becomes entry i: x'(i) = x(position i). Positions solve a key when they are
  * 0 to n - 1, each once, and H x', H times x in the order of the positions, equals y. For a key without a target lend m
@@ -50,9 +57,9 @@
 #include <stddef.h>
 #include <stdint.h>
 
-#define PERK_VERSION "0.4.0"
+#define PERK_VERSION "0.5.0"
 #define PERK_VERSION_MAJOR 0
-#define PERK_VERSION_MINOR 4
+#define PERK_VERSION_MINOR 5
 #define PERK_VERSION_PATCH 0
 
 /* results */
@@ -74,6 +81,7 @@
 #define PERK_FIELD_LENGTH 11 /* not a length that the field has for these sizes */
 #define PERK_BYTES_FOLLOW 12 /* bytes follow the last field */
 #define PERK_ZERO_TARGET 14  /* field 04 is present and all its elements are zero */
+#define PERK_DEPENDENT_ROWS 15 /* some coefficients from F, not all zero, combine the rows of H to zero */
 #define PERK_SPARE_CODE 16   /* a position is a spare code, n to 2^d - 1, which names no column; none is 2^d or more */
 #define PERK_LONG_SERIAL 19  /* a serial of four bytes is below 65536, so that it fits two */
 
@@ -83,6 +91,7 @@
 /* lengths of slices, for n from 2 to 64 and m from 1 to n - 1: words are uint16_t, bytes are uint8_t */
 #define PERK_ELEMENT_WORDS 12
 #define PERK_H_WORDS(n, m) ((m) * (n))
+#define PERK_MATRIX_WORDS(n, m) ((m) * (n))
 #define PERK_X_WORDS(n) (n)
 #define PERK_Y_WORDS(m) (m)
 #define PERK_POSITIONS_BYTES(n) (n)
@@ -158,6 +167,31 @@ PERK_LOOK_AT_RESULT
 uint32_t perk_product(const uint16_t *a, size_t a_len, const uint16_t *b, size_t b_len, uint16_t *out, size_t out_len);
 
 /*
+ * For an office that is handed a key: the rank of H, by elimination, and the cleared form of H. It takes n, m and H alone.
+ *
+ *   h            m n words
+ *   matrix       m n words, written: the cleared form
+ *   rank         a number of the caller's, not within h or matrix; written: how many rows were taken, 0 to m
+ *
+ * matrix starts as a copy of H, and all its rows are unused. For each column, lowest first, the lowest-numbered unused row
+ * whose entry there is not zero is taken, and multiples of it are added to the unused rows below it, so that their entries
+ * there become zero. The row that is taken counts as used, and used rows keep their entries. A column in which every unused
+ * row has zero takes none. No rows change places.
+ *
+ * How to use it: lend a matrix as long as H, and compare the rank with m. The rank m means that the rows of H do not lean on
+ * each other. A rank below m means that they do, so that the key asks less of an order than it seems to: send it back.
+ * The rows of matrix that were not taken, m less the rank, are then all zero: they show which rows of H lean on rows above
+ * them (by the method; this is not part of the proof). A rank below m is no refusal here; every other function that takes a
+ * key refuses this one with 15.
+ *
+ * Proved besides: the rank is below m exactly when some coefficients from F, not all zero, combine the rows of H to zero.
+ *
+ * Refusals: 1, 2, 3 (h, matrix), 4 (h). Stack: under 6 KiB.
+ */
+PERK_LOOK_AT_RESULT
+uint32_t perk_rank(size_t n, size_t m, const uint16_t *h, size_t h_len, uint16_t *matrix, size_t matrix_len, size_t *rank);
+
+/*
  * The masked witness and the n + m constraint polynomials of a key, from the prover's positions, mask bits u and offsets v.
  *
  *   h            m n words       x            n words       y            m words
@@ -166,7 +200,8 @@ uint32_t perk_product(const uint16_t *a, size_t a_len, const uint16_t *b, size_t
  *   t            n d bytes, written: digit k of position i, highest first, exclusive-or u(i,k)
  *   polynomials  12 (n + m) (d + 1) words, written: polynomial 0 first, d + 1 coefficients each, that of X^0 first
  *
- * Spare codes, positions from n to 2^d - 1, are taken. Refusals: 1, 2, 3 (all eight slices), 4 (h, x, y), 5 (u), 6 (v), 7.
+ * Spare codes, positions from n to 2^d - 1, are taken. Refusals: 1, 2, 3 (all eight slices), 4 (h, x, y), 15 (h), 5 (u),
+ * 6 (v), 7.
  *
  * Proved of what is written: the top coefficients of all n + m polynomials are zero exactly when the positions are
  * 0 to n - 1, each once, and H times x in that order is y; and wherever perk_values is given this key, this t, a
@@ -188,7 +223,7 @@ uint32_t perk_constraints(size_t n, size_t m, const uint16_t *h, size_t h_len, c
  *   t            n d bytes       q            12 n d words  delta        12 words
  *   values       12 (n + m) words, written: value 0 first
  *
- * Refusals: 1, 2, 3 (all seven slices), 4 (h, x, y), 5 (t), 6 (q, delta). Stack: under 6 KiB.
+ * Refusals: 1, 2, 3 (all seven slices), 4 (h, x, y), 15 (h), 5 (t), 6 (q, delta). Stack: under 14 KiB.
  */
 PERK_LOOK_AT_RESULT
 uint32_t perk_values(size_t n, size_t m, const uint16_t *h, size_t h_len, const uint16_t *x, size_t x_len,
@@ -208,13 +243,13 @@ uint32_t perk_values(size_t n, size_t m, const uint16_t *h, size_t h_len, const 
  *   a            12 d words, written: the d coefficients below X^d, that of X^0 first, of the sum of alpha(j) times
  *                polynomial j plus the sum over k below d - 1 of X^k (s(k) X + r(k))
  *
- * Refusals: 1, 2, 3 (all eleven slices), 4 (h, x, y), 5 (u), 6 (v, r, s, alpha), 7 (a position is 2^d or more, wherever
- * among spare codes it stands), 16 (a position is a spare code), and then 8, found before anything is written, whatever
- * the weights are.
+ * Refusals: 1, 2, 3 (all eleven slices), 4 (h, x, y), 15 (h), 5 (u), 6 (v, r, s, alpha), 7 (a position is 2^d or more,
+ * wherever among spare codes it stands), 16 (a position is a spare code), and then 8, found before anything is written,
+ * whatever the weights are.
  *
- * Proved besides: past 1 to 7 the result is 16 exactly when a position is a spare code; past 1 to 7 and 16 it is 0 exactly
- * when the positions are 0 to n - 1, each once, and H times x in that order is y, and 8 exactly when they are not; and
- * wherever the result is 0, perk_verify accepts t and a with the same key and weights, any challenge delta, each
+ * Proved besides: past 1 to 7 and 15 the result is 16 exactly when a position is a spare code; past these and 16 it is 0
+ * exactly when the positions are 0 to n - 1, each once, and H times x in that order is y, and 8 exactly when they are not;
+ * and wherever the result is 0, perk_verify accepts t and a with the same key and weights, any challenge delta, each
  * q(i,k) = u(i,k) delta + v(i,k) and each masks(k) = s(k) delta + r(k).
  *
  * No jump and no address depends on positions, u, v, r or s, other than the decision to refuse; this is tested, and not
@@ -236,7 +271,7 @@ uint32_t perk_prove(size_t n, size_t m, const uint16_t *h, size_t h_len, const u
  *   masks        12 (d - 1) words                           a            12 d words
  *   alpha        12 (n + m) words
  *
- * Refusals: 1, 2, 3 (all nine slices), 4 (h, x, y), 5 (t), 6 (q, delta, masks, alpha, a). Stack: under 12 KiB.
+ * Refusals: 1, 2, 3 (all nine slices), 4 (h, x, y), 15 (h), 5 (t), 6 (q, delta, masks, alpha, a). Stack: under 20 KiB.
  *
  * Accepted means that this equation holds. It does not by itself mean that a signature is valid: the challenge, the
  * weights and the correlations are the caller's, who must take the weights only after the prover's commitment to its
@@ -256,8 +291,8 @@ uint32_t perk_verify(size_t n, size_t m, const uint16_t *h, size_t h_len, const 
  *   tag   content                            bytes            refusals of its values
  *   01    n, m, one byte each                2                1, 2
  *   02    H, row after row                   2 m n            4
- *   03    x                                  2 n              4
- *   04    y, not all zero                    2 m              4, 14 (read where the byte after 03 is 04)
+ *   03    x                                  2 n              4, and 15 of H where the byte after 03 is not 04
+ *   04    y, not all zero                    2 m              4, 14, 15 of H (read where the byte after 03 is 04)
  *   05    the serial, 0 to 4294967295        2 or 4           19
  *   06    t, one byte for each bit           n d              5
  *   07    a                                  24 d             6
@@ -274,24 +309,28 @@ uint32_t perk_verify(size_t n, size_t m, const uint16_t *h, size_t h_len, const 
  * The readers try for each field in turn 9 (fewer than 3 bytes remain), 10, 11, 9 (fewer than the length remain) and the
  * refusals of its values, and after the last field 12. They read any number of bytes.
  *
+ * 15, where the rows of H lean on each other, is tried when the key has been read as a whole. Where the byte after field 03
+ * is 04, be it the last of the file, it comes after all refusals of 04: 9, 11, 9, 4 and 14. Where that byte is another one,
+ * or the file ends there, it comes directly after those of 03, and so before 9 and 10 of what should follow.
+ *
  * n, m and the serial of a package; on a refusal the three keep their values. n, m and serial name three different numbers
- * of the caller's, none of them within bytes. Stack: under 2 KiB.
+ * of the caller's, none of them within bytes. Stack: under 12 KiB.
  */
 PERK_LOOK_AT_RESULT
 uint32_t perk_read_package(const uint8_t *bytes, size_t bytes_len, uint32_t *n, uint32_t *m, uint32_t *serial);
 
 /*
  * The same of a check file, whose first PERK_PACKAGE_BYTES(n, m, target, serial) bytes are a package; target is 1 exactly
- * where the byte after field 03, the one at 11 + 2 m n + 2 n, is 04. Stack: under 2 KiB.
+ * where the byte after field 03, the one at 11 + 2 m n + 2 n, is 04. Stack: under 12 KiB.
  */
 PERK_LOOK_AT_RESULT
 uint32_t perk_read_check_file(const uint8_t *bytes, size_t bytes_len, uint32_t *n, uint32_t *m, uint32_t *serial);
 
 /*
  * Where the content of the field with a tag stands in a package: returns its length, and start is its first byte's place
- * in bytes. 0, with start 0, for a package that perk_read_package refuses, a check file among these, or a tag that the
- * package does not have, as 04 where y is all zero; no field of a package is empty. No refusal is told. start names a
- * number of the caller's, not within bytes. Stack: under 2 KiB.
+ * in bytes. 0, with start 0, for a package that perk_read_package refuses, a check file and a key whose rows lean on each
+ * other among these, or a tag that the package does not have, as 04 where y is all zero; no field of a package is empty. No
+ * refusal is told. start names a number of the caller's, not within bytes. Stack: under 12 KiB.
  */
 PERK_LOOK_AT_RESULT
 size_t perk_field(const uint8_t *bytes, size_t bytes_len, uint8_t tag, size_t *start);
@@ -327,6 +366,7 @@ static inline const char *perk_refusal_text(uint32_t number) {
     case PERK_FIELD_LENGTH: return "a field's length is not one stated for it";
     case PERK_BYTES_FOLLOW: return "bytes follow the last field";
     case PERK_ZERO_TARGET: return "field 04 is present and all its elements are zero";
+    case PERK_DEPENDENT_ROWS: return "some coefficients from F, not all zero, combine the rows of H to zero";
     case PERK_SPARE_CODE: return "a position is a spare code, n to 2^d - 1, which names no column";
     case PERK_LONG_SERIAL: return "a serial of four bytes is below 65536, so that it fits two";
     case PERK_REJECTED: return "rejected";

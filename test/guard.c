@@ -29,6 +29,10 @@ struct slice {
 
 static uint32_t sum(struct slice *s) { return perk_sum(WORDS(s[0]), WORDS(s[1]), WORDS_OUT(s[2])); }
 static uint32_t product(struct slice *s) { return perk_product(WORDS(s[0]), WORDS(s[1]), WORDS_OUT(s[2])); }
+static uint32_t rank(struct slice *s) {
+    size_t rank;
+    return perk_rank(N, M, WORDS(s[0]), WORDS_OUT(s[1]), &rank);
+}
 static uint32_t constraints(struct slice *s) {
     return perk_constraints(N, M, KEY(s), BYTES(s[3]), BYTES(s[4]), WORDS(s[5]), BYTES_OUT(s[6]), WORDS_OUT(s[7]));
 }
@@ -55,6 +59,7 @@ static struct {
 } entries[] = {
     {"perk_sum", sum, {K(1), K(1), K(1)}},
     {"perk_product", product, {K(1), K(1), K(1)}},
+    {"perk_rank", rank, {F(M * N), F(M * N)}},
     {"perk_constraints", constraints, {OF_KEY, B(N), B(N * D), K(N * D), B(N * D), K((N + M) * (D + 1))}},
     {"perk_values", values, {OF_KEY, B(N * D), K(N * D), K(1), K(N + M)}},
     {"perk_prove", prove, {OF_KEY, B(N), B(N * D), K(N * D), K(D - 1), K(D - 1), K(N + M), B(N * D), K(D)}},
@@ -130,8 +135,9 @@ int main(void) {
         struct slice *s = entries[e].slices;
         size_t slices = 0;
         while (slices < MOST && s[slices].count > 0) place(&s[slices++]);
-        /* x and y are zero, so every order solves a key whose rows are unit rows; the fourth slice of a prover's entry holds the positions */
-        if (slices > 3)
+        /* the rows of H, the first slice of rank too, are unit rows, so that none leans on another; x and y are zero, so every order solves
+           such a key; the fourth slice of a prover's entry holds the positions */
+        if (s[0].count == M * N)
             for (size_t i = 0; i < M; i++) ((uint16_t *)s[0].start)[i * N + i] = 1;
         if (s[3].count == N && s[3].size == 1)
             for (size_t i = 0; i < N; i++) ((uint8_t *)s[3].start)[i] = (uint8_t)i;

@@ -9,7 +9,7 @@
 enum { N = 64, M = 63 };
 
 /* constant expressions */
-static uint16_t h[PERK_H_WORDS(N, M)], x[PERK_X_WORDS(N)], y[PERK_Y_WORDS(M)], v[PERK_V_WORDS(N)], r[PERK_R_WORDS(N)], s[PERK_S_WORDS(N)];
+static uint16_t h[PERK_H_WORDS(N, M)], matrix[PERK_MATRIX_WORDS(N, M)], x[PERK_X_WORDS(N)], y[PERK_Y_WORDS(M)], v[PERK_V_WORDS(N)], r[PERK_R_WORDS(N)], s[PERK_S_WORDS(N)];
 static uint16_t alpha[PERK_ALPHA_WORDS(N, M)], polynomials[PERK_POLYNOMIALS_WORDS(N, M)], a[PERK_A_WORDS(N)], q[PERK_Q_WORDS(N)];
 static uint16_t delta[PERK_DELTA_WORDS], masks[PERK_MASKS_WORDS(N)], values[PERK_VALUES_WORDS(N, M)];
 static uint8_t positions[PERK_POSITIONS_BYTES(N)], u[PERK_U_BYTES(N)], t[PERK_T_BYTES(N)], bytes[PERK_LARGEST_CHECK_FILE_BYTES + 1];
@@ -35,13 +35,21 @@ static size_t field(size_t at, uint8_t tag, size_t length) {
     return at + 3 + length;
 }
 
-/* the package of a key and a proof of zeros, with the serial in this many bytes; where there is a target y is (0, .., 0, 256), and else it is
-   absent */
+/* the first m unit rows as H, which do not lean on each other */
+static void unit_rows(size_t n, size_t m) {
+    memset(h, 0, sizeof h);
+    for (size_t e = 0; e < m; e++) h[e * n + e] = 1;
+}
+
+/* the package of a key with the unit rows and a proof of zeros, with the serial in this many bytes; where there is a target y is
+   (0, .., 0, 256), and else it is absent */
 static size_t package(size_t n, size_t m, int target, uint32_t serial, size_t serial_bytes) {
     size_t at = field(0, PERK_TAG_SIZES, 2);
     bytes[at - 2] = (uint8_t)n;
     bytes[at - 1] = (uint8_t)m;
+    size_t of_h = at + 3;
     at = field(at, PERK_TAG_H, 2 * PERK_H_WORDS(n, m));
+    for (size_t e = 0; e < m; e++) bytes[of_h + 2 * (e * n + e) + 1] = 1;
     at = field(at, PERK_TAG_X, 2 * PERK_X_WORDS(n));
     if (target) {
         at = field(at, PERK_TAG_Y, 2 * PERK_Y_WORDS(m));
@@ -137,9 +145,108 @@ static void codes(size_t n, size_t m) {
     positions[n - 1] = (uint8_t)(n - 1);
 }
 
+/* PERK_DONE where H in h has this rank and the cleared form has as many rows of zeros as the rank is below m */
+static uint32_t ranked(size_t n, size_t m, size_t stated) {
+    size_t rank = m + 1;
+    memset(matrix, 255, sizeof matrix);
+    uint32_t result = perk_rank(n, m, h, PERK_H_WORDS(n, m), matrix, PERK_MATRIX_WORDS(n, m), &rank);
+    if (result != PERK_DONE) return result;
+    size_t zeros = 0;
+    for (size_t e = 0; e < m; e++) {
+        size_t i = 0;
+        while (i < n && matrix[e * n + i] == 0) i++;
+        zeros += i == n;
+    }
+    return rank == stated && zeros == m - rank ? PERK_DONE : PERK_REJECTED;
+}
+
+/* every function that takes a key refuses the one whose H stands in h, and keeps its outputs */
+static void dependent(const char *what, size_t n, size_t m) {
+    uint32_t kept[3] = {7, 8, 9};
+    size_t start = 5;
+    memset(t, 7, sizeof t);
+    memset(a, 7, sizeof a);
+    memset(polynomials, 7, sizeof polynomials);
+    memset(values, 7, sizeof values);
+    /* a bit above 1 comes later */
+    u[0] = 2;
+    expect(what, n, m, perk_constraints(n, m, h, PERK_H_WORDS(n, m), x, PERK_X_WORDS(n), y, PERK_Y_WORDS(m), positions, PERK_POSITIONS_BYTES(n), u,
+           PERK_U_BYTES(n), v, PERK_V_WORDS(n), t, PERK_T_BYTES(n), polynomials, PERK_POLYNOMIALS_WORDS(n, m)), PERK_DEPENDENT_ROWS);
+    expect(what, n, m, perk_prove(n, m, h, PERK_H_WORDS(n, m), x, PERK_X_WORDS(n), y, PERK_Y_WORDS(m), positions, PERK_POSITIONS_BYTES(n), u,
+           PERK_U_BYTES(n), v, PERK_V_WORDS(n), r, PERK_R_WORDS(n), s, PERK_S_WORDS(n), alpha, PERK_ALPHA_WORDS(n, m), t,
+           PERK_T_BYTES(n), a, PERK_A_WORDS(n)), PERK_DEPENDENT_ROWS);
+    u[0] = 0;
+    expect(what, n, m, perk_values(n, m, h, PERK_H_WORDS(n, m), x, PERK_X_WORDS(n), y, PERK_Y_WORDS(m), t, PERK_T_BYTES(n), q, PERK_Q_WORDS(n), delta,
+           PERK_DELTA_WORDS, values, PERK_VALUES_WORDS(n, m)), PERK_DEPENDENT_ROWS);
+    expect(what, n, m, perk_verify(n, m, h, PERK_H_WORDS(n, m), x, PERK_X_WORDS(n), y, PERK_Y_WORDS(m), t, PERK_T_BYTES(n), q, PERK_Q_WORDS(n), delta,
+           PERK_DELTA_WORDS, masks, PERK_MASKS_WORDS(n), alpha, PERK_ALPHA_WORDS(n, m), a, PERK_A_WORDS(n)), PERK_DEPENDENT_ROWS);
+    for (size_t i = 0; i < PERK_T_BYTES(n); i++)
+        if (t[i] != 7) failed = 1;
+    for (size_t i = 0; i < PERK_A_WORDS(n); i++)
+        if (a[i] != 0x0707) failed = 1;
+    for (size_t i = 0; i < PERK_POLYNOMIALS_WORDS(n, m); i++)
+        if (polynomials[i] != 0x0707) failed = 1;
+    for (size_t i = 0; i < PERK_VALUES_WORDS(n, m); i++)
+        if (values[i] != 0x0707) failed = 1;
+    memset(t, 0, sizeof t);
+    memset(a, 0, sizeof a);
+
+    /* files with and without a target */
+    for (int target = 0; target < 2; target++) {
+        size_t of_package = package(n, m, target, 7, 2), after_x = 11 + 2 * m * n + 2 * n, after_y = after_x + 3 + 2 * m;
+        for (size_t i = 0; i < PERK_H_WORDS(n, m); i++) {
+            bytes[8 + 2 * i] = (uint8_t)(h[i] >> 8);
+            bytes[8 + 2 * i + 1] = (uint8_t)(h[i] & 255);
+        }
+        expect(what, n, m, perk_read_package(bytes, of_package, &kept[0], &kept[1], &kept[2]), PERK_DEPENDENT_ROWS);
+        expect(what, n, m, perk_field(bytes, of_package, PERK_TAG_H, &start) == 0 && start == 0 ? PERK_DONE : PERK_REJECTED, PERK_DONE);
+        size_t at = check_file(n, m, of_package);
+        expect(what, n, m, perk_read_check_file(bytes, at, &kept[0], &kept[1], &kept[2]), PERK_DEPENDENT_ROWS);
+        expect(what, n, m, perk_check(bytes, at), PERK_DEPENDENT_ROWS);
+        /* nothing after the key is looked at; a lone byte 04 begins a field that is cut */
+        expect(what, n, m, perk_check(bytes, after_x), PERK_DEPENDENT_ROWS);
+        expect(what, n, m, perk_check(bytes, after_x + 1), target ? PERK_BYTES_MISSING : PERK_DEPENDENT_ROWS);
+        if (target) expect(what, n, m, perk_check(bytes, after_y), PERK_DEPENDENT_ROWS);
+    }
+    expect("n, m and serial kept", n, m, kept[0] == 7 && kept[1] == 8 && kept[2] == 9 ? PERK_DONE : PERK_REJECTED, PERK_DONE);
+}
+
+/* the rank of the unit rows and of rows that lean: the last is zero, the last is the first times 5, all are zero */
+static void rows(size_t n, size_t m) {
+    expect("rank of unit rows", n, m, ranked(n, m, m), PERK_DONE);
+    expect("their cleared form", n, m, memcmp(matrix, h, 2 * PERK_H_WORDS(n, m)) == 0 ? PERK_DONE : PERK_REJECTED, PERK_DONE);
+    h[(m - 1) * n + m - 1] = 0;
+    expect("rank with a row of zeros", n, m, ranked(n, m, m - 1), PERK_DONE);
+    dependent("a row of zeros", n, m);
+    if (m > 1) {
+        h[(m - 1) * n] = 5;
+        expect("rank with a multiple", n, m, ranked(n, m, m - 1), PERK_DONE);
+        dependent("a multiple", n, m);
+    }
+    memset(h, 0, sizeof h);
+    expect("rank of zeros", n, m, ranked(n, m, 0), PERK_DONE);
+    dependent("zeros", n, m);
+    unit_rows(n, m);
+
+    /* the refusals of rank, each of which leaves the number and the matrix */
+    size_t rank = 5, words = PERK_H_WORDS(n, m);
+    memset(matrix, 7, sizeof matrix);
+    expect("23", n, m, perk_rank(65, m, h, words, matrix, words, &rank), PERK_SIZE_N);
+    expect("24", n, m, perk_rank(n, n, h, words, matrix, words, &rank), PERK_SIZE_M);
+    expect("25", n, m, perk_rank(n, m, h, words - 1, matrix, words, &rank), PERK_SLICE_LENGTH);
+    expect("26", n, m, perk_rank(n, m, h, words, matrix, words - 1, &rank), PERK_SLICE_LENGTH);
+    h[words - 1] = 2048;
+    expect("27", n, m, perk_rank(n, m, h, words, matrix, words, &rank), PERK_KEY_ELEMENT);
+    unit_rows(n, m);
+    expect("the rank kept", n, m, rank == 5 ? PERK_DONE : PERK_REJECTED, PERK_DONE);
+    for (size_t i = 0; i < words; i++)
+        if (matrix[i] != 0x0707) failed = 1;
+}
+
 static void sizes(size_t n, size_t m) {
     static const uint32_t serials[] = {0, 1, 255, 256, 65535, 65536, 65537, 16777216, 4294967295};
-    /* H and y are zero, so that the order 0, 1, .. solves the key */
+    /* H has unit rows, x and y are zero, so that the order 0, 1, .. solves the key */
+    unit_rows(n, m);
     expect("constraints", n, m, perk_constraints(n, m, h, PERK_H_WORDS(n, m), x, PERK_X_WORDS(n), y, PERK_Y_WORDS(m), positions, PERK_POSITIONS_BYTES(n), u,
            PERK_U_BYTES(n), v, PERK_V_WORDS(n), t, PERK_T_BYTES(n), polynomials, PERK_POLYNOMIALS_WORDS(n, m)), PERK_DONE);
     expect("values", n, m, perk_values(n, m, h, PERK_H_WORDS(n, m), x, PERK_X_WORDS(n), y, PERK_Y_WORDS(m), t, PERK_T_BYTES(n), q, PERK_Q_WORDS(n), delta,
@@ -158,6 +265,7 @@ static void sizes(size_t n, size_t m) {
 
     wrong_targets(n, m);
     codes(n, m);
+    rows(n, m);
 
     expect("5", n, m, perk_values(65, m, h, 0, x, 0, y, 0, t, 0, q, 0, delta, 0, values, 0), PERK_SIZE_N);
     expect("6", n, m, perk_values(n, n, h, 0, x, 0, y, 0, t, 0, q, 0, delta, 0, values, 0), PERK_SIZE_M);
@@ -167,30 +275,35 @@ static void sizes(size_t n, size_t m) {
 /* constraints and prove at n = 2, m = 1 with one number changed */
 static void material(void) {
     static const uint8_t order[2] = {0, 1}, twice[2] = {0, 0}, large[2] = {0, 2}, bits[2] = {0, 2};
-    static const uint16_t small[2] = {0, 0}, one[1] = {1}, above[24] = {2048}, element[24] = {0};
+    static const uint16_t row[2] = {1, 0}, small[2] = {0, 0}, one[1] = {1}, above[24] = {2048}, element[24] = {0};
     uint8_t out[2];
     uint16_t proof[12];
     expect("8", 2, 1, perk_prove(2, 1, above, 2, small, 2, small, 1, order, 2, order, 2, element, 24, r, 0, s, 0, alpha, 36, out, 2, proof, 12),
            PERK_KEY_ELEMENT);
-    expect("9", 2, 1, perk_prove(2, 1, small, 2, small, 2, small, 1, order, 2, bits, 2, element, 24, r, 0, s, 0, alpha, 36, out, 2, proof, 12),
+    expect("9", 2, 1, perk_prove(2, 1, row, 2, small, 2, small, 1, order, 2, bits, 2, element, 24, r, 0, s, 0, alpha, 36, out, 2, proof, 12),
            PERK_BIT);
-    expect("10", 2, 1, perk_prove(2, 1, small, 2, small, 2, small, 1, order, 2, order, 2, above, 24, r, 0, s, 0, alpha, 36, out, 2, proof, 12),
+    expect("10", 2, 1, perk_prove(2, 1, row, 2, small, 2, small, 1, order, 2, order, 2, above, 24, r, 0, s, 0, alpha, 36, out, 2, proof, 12),
            PERK_COORDINATE);
-    expect("11", 2, 1, perk_prove(2, 1, small, 2, small, 2, small, 1, large, 2, order, 2, element, 24, r, 0, s, 0, alpha, 36, out, 2, proof, 12),
+    expect("11", 2, 1, perk_prove(2, 1, row, 2, small, 2, small, 1, large, 2, order, 2, element, 24, r, 0, s, 0, alpha, 36, out, 2, proof, 12),
            PERK_POSITION);
-    expect("12", 2, 1, perk_prove(2, 1, small, 2, small, 2, small, 1, twice, 2, order, 2, element, 24, r, 0, s, 0, alpha, 36, out, 2, proof, 12),
+    expect("12", 2, 1, perk_prove(2, 1, row, 2, small, 2, small, 1, twice, 2, order, 2, element, 24, r, 0, s, 0, alpha, 36, out, 2, proof, 12),
            PERK_TOP);
     /* y above 2047, and one that no order reaches */
-    expect("19", 2, 1, perk_prove(2, 1, small, 2, small, 2, above, 1, order, 2, order, 2, element, 24, r, 0, s, 0, alpha, 36, out, 2, proof, 12),
+    expect("19", 2, 1, perk_prove(2, 1, row, 2, small, 2, above, 1, order, 2, order, 2, element, 24, r, 0, s, 0, alpha, 36, out, 2, proof, 12),
            PERK_KEY_ELEMENT);
-    expect("20", 2, 1, perk_prove(2, 1, small, 2, small, 2, one, 1, order, 2, order, 2, element, 24, r, 0, s, 0, alpha, 36, out, 2, proof, 12),
+    expect("20", 2, 1, perk_prove(2, 1, row, 2, small, 2, one, 1, order, 2, order, 2, element, 24, r, 0, s, 0, alpha, 36, out, 2, proof, 12),
            PERK_TOP);
+    /* the one row is zero, which comes after an element of x above 2047 and before a bit above 1 */
+    expect("28", 2, 1, perk_prove(2, 1, small, 2, small, 2, small, 1, order, 2, bits, 2, element, 24, r, 0, s, 0, alpha, 36, out, 2, proof, 12),
+           PERK_DEPENDENT_ROWS);
+    expect("29", 2, 1, perk_prove(2, 1, small, 2, above, 2, small, 1, order, 2, bits, 2, element, 24, r, 0, s, 0, alpha, 36, out, 2, proof, 12),
+           PERK_KEY_ELEMENT);
 }
 
-/* each of 0 to 12, 14, 16, 19 and 255 has a text, and no two the same; every other number has one text */
+/* each of 0 to 12, 14, 15, 16, 19 and 255 has a text, and no two the same; every other number has one text */
 static void texts(void) {
-    static const uint32_t numbers[] = {0, 1, 2, 3, 4, 5, 6, 7, 8, 9, 10, 11, 12, 14, 16, 19, 255, 13};
-    static const uint32_t others[] = {15, 17, 18, 20, 254, 256, UINT32_MAX};
+    static const uint32_t numbers[] = {0, 1, 2, 3, 4, 5, 6, 7, 8, 9, 10, 11, 12, 14, 15, 16, 19, 255, 13};
+    static const uint32_t others[] = {17, 18, 20, 254, 256, UINT32_MAX};
     size_t count = sizeof numbers / sizeof *numbers;
     for (size_t i = 0; i < count; i++)
         for (size_t j = 0; j < i; j++)

@@ -19,6 +19,9 @@ int main(void) {
     expect("product", perk_product(NONE, NONE, NONE), 3);
     for (size_t n = 0; n < 4; n++) {
         uint32_t stated = n < 2 ? 1 : 3;
+        size_t rank = 5;
+        expect("rank", perk_rank(n, 1, NONE, NONE, &rank), stated);
+        expect("the rank kept", rank == 5, 1);
         expect("constraints", perk_constraints(KEY, NONE, NONE, NONE, NONE, NONE), stated);
         expect("values", perk_values(KEY, NONE, NONE, NONE, NONE), stated);
         expect("prove", perk_prove(KEY, NONE, NONE, NONE, NONE, NONE, NONE, NONE, NONE), stated);

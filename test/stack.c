@@ -13,7 +13,7 @@
 enum { N = 64, M = 63, D = 6, W = 12, SIZE = 1 << 20, PAINT = 0xA5 };
 
 static uint16_t h[M * N], x[N], y[M], v[W * N * D], r[W * (D - 1)], s[W * (D - 1)], alpha[W * (N + M)], a[W * D], q[W * N * D];
-static uint16_t delta[W], masks[W * (D - 1)], polynomials[W * (N + M) * (D + 1)], values[W * (N + M)], out[W];
+static uint16_t matrix[M * N], delta[W], masks[W * (D - 1)], polynomials[W * (N + M) * (D + 1)], values[W * (N + M)], out[W];
 static uint8_t positions[N], u[N * D], t[N * D], file[32768];
 static size_t file_len, package_len;
 
@@ -23,6 +23,10 @@ static size_t file_len, package_len;
 static uint32_t nothing(void) { return 0; }
 static uint32_t sum(void) { return perk_sum(delta, W, delta, W, out, W); }
 static uint32_t product(void) { return perk_product(delta, W, delta, W, out, W); }
+static uint32_t rank(void) {
+    size_t number;
+    return perk_rank(N, M, h, M * N, matrix, M * N, &number);
+}
 static uint32_t constraints(void) {
     return perk_constraints(KEY, positions, N, u, N * D, v, W * N * D, t, N * D, polynomials, W * (N + M) * (D + 1));
 }
@@ -104,20 +108,21 @@ static void remove_y(void) {
 
 int main(int argc, char **argv) {
     /* the first of the functions that take a file */
-    enum { FILES = 6 };
+    enum { FILES = 7 };
     static const struct {
         const char *name;
         uint32_t (*call)(void);
         size_t most;
     } calls[] = {{"perk_sum", sum, 2048},
                  {"perk_product", product, 2048},
+                 {"perk_rank", rank, 6 * 1024},
                  {"perk_constraints", constraints, 20 * 1024},
-                 {"perk_values", value, 6 * 1024},
+                 {"perk_values", value, 14 * 1024},
                  {"perk_prove", prove, 24 * 1024},
-                 {"perk_verify", verify, 12 * 1024},
-                 {"perk_read_package", read_package, 2048},
-                 {"perk_read_check_file", read_check_file, 2048},
-                 {"perk_field", field, 2048},
+                 {"perk_verify", verify, 20 * 1024},
+                 {"perk_read_package", read_package, 12 * 1024},
+                 {"perk_read_check_file", read_check_file, 12 * 1024},
+                 {"perk_field", field, 12 * 1024},
                  {"perk_check", check, 40 * 1024}};
     FILE *input = argc == 2 ? fopen(argv[1], "rb") : NULL;
     if (input == NULL) return 2;

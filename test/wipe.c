@@ -50,7 +50,8 @@ static size_t left(int wiped) {
 }
 
 int main(void) {
-    /* H and y are zero, so that the order 0, 1, .. solves the key */
+    /* H has unit rows, x and y are zero, so that the order 0, 1, .. solves the key */
+    for (int e = 0; e < M; e++) h[e * N + e] = 1;
     for (int i = 0; i < N; i++) positions[i] = (uint8_t)i;
     for (int i = 0; i < PERK_V_WORDS(N); i++) v[i] = (uint16_t)(1 + i * 37 % 2047);
     for (int i = 0; i < PERK_ALPHA_WORDS(N, M); i++) alpha[i] = (uint16_t)(1 + i * 91 % 2047);

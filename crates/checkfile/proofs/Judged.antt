@@ -12,13 +12,14 @@ use Rattle.refusal.specs.declared.Verdict.{Verdict}
 use Rattle.refusal.specs.declared.Verdict.the-variants as verdict
 use Rattle.field.specs.Level.{FIRST, levelAt}
 use Rattle.key.specs.declared.Code.the-variants.{Column}
-use Rattle.key.specs.Key.{lengths, keyWithin, below, withins}
+use Rattle.key.specs.Key.{lengths, below, withins}
 use Rattle.key.proofs.Checked.{checked-done}
 use Rattle.package.specs.declared.Contents.{Contents}
 use Rattle.package.specs.declared.Read.the-variants.{Fields}
 use Rattle.package.specs.Reading.{checkFileReader, reading}
 use Rattle.package.specs.Written.{KeyData, Group, Check, checkForm}
 use Rattle.package.proofs.Accepted.{read-accepts}
+use Rattle.package.proofs.Opening.{valid-stands}
 use Rattle.package.proofs.Forms.{check-file-faithful}
 use Rattle.verifier.specs.Entry.{verifyLent}
 use Rattle.verifier.proofs.Judged as verifier
@@ -36,10 +37,11 @@ never-refused k g c v =
     let group = v .0 .1 in
     let check = v .1 in
     let fine : Long lent = (of .h .0, (of .x .0, (of .y .0, (group .t .0, (check .q .0, (check .delta .0, (check .masks .0, (check .alpha .0, (group .a .0, tt))))))))) in
-    checked-done l (k .sizes) (long lent) (keyWithin l (k .slices)) (below 1 (g .t)) (withins l (c .q ∷ c .delta ∷ c .masks ∷ c .alpha ∷ g .a ∷ [])) Column (record {
+    checked-done l (k .sizes) (long lent) (k .slices) (below 1 (g .t)) (withins l (c .q ∷ c .delta ∷ c .masks ∷ c .alpha ∷ g .a ∷ [])) Column (record {
       is-sized = of .sized;
       slices-fine = long-each lent fine;
       elements-fine = rw (of .h .1, of .x .1, of .y .1);
+      rows-fine = valid-stands k of;
       bits-fine = group .t .1;
       coordinates-fine = rw (check .q .1, check .delta .1, check .masks .1, check .alpha .1, group .a .1);
       positions-fine = refl;
@@ -64,16 +66,16 @@ judged s b c e =
     let v = verdictOf (levelAt FIRST) k g h in
     let done = never-refused k g h (within-limits s b (read-accepts (checkFileReader (levelAt FIRST)) s e .0)) in
     let is : checking (levelAt FIRST) s ≡ answered (Fields c) v = ap (λ r. answered r v) e in
-    let w = verifier.told (levelAt FIRST) (k .sizes) (k .slices) (g .t) (h .q) (h .delta) (h .masks) (h .alpha) (g .a) refl refl refl refl refl in
+    let w = verifier.told FIRST (k .sizes) (k .slices) (g .t) (h .q) (h .delta) (h .masks) (h .alpha) (g .a) refl refl refl refl refl in
     record {
       never-refused = done;
       accepted = (
-        λ a. w .1 .accepted .0 (w .0 ∙ accepted-verdict c v (sym is ∙ a)) .1,
-        λ holds. is ∙ ap (answered (Fields c)) (sym (w .0) ∙ w .1 .accepted .1 (done, holds)),
+        λ a. w .1 .1 .accepted .0 (w .0 ∙ accepted-verdict c v (sym is ∙ a)) .1,
+        λ holds. is ∙ ap (answered (Fields c)) (sym (w .0) ∙ w .1 .1 .accepted .1 (done, holds)),
       );
       rejected = (
-        λ a. w .1 .rejected .0 (w .0 ∙ rejected-verdict c v (sym is ∙ a)) .1,
-        λ fails. is ∙ ap (answered (Fields c)) (sym (w .0) ∙ w .1 .rejected .1 (done, fails)),
+        λ a. w .1 .1 .rejected .0 (w .0 ∙ rejected-verdict c v (sym is ∙ a)) .1,
+        λ fails. is ∙ ap (answered (Fields c)) (sym (w .0) ∙ w .1 .1 .rejected .1 (done, fails)),
       );
     }
 

@@ -7,10 +7,12 @@ use borrow.Author.Tests.{ne-eqb, eqb-true, eqb-false}
 use lib.Dec.{eqb}
 use Rattle.field.specs.Ring.{Ring}
 use Rattle.field.specs.RingLaws.{ring, mul-zero, zero-mul, zero-add}
-use Rattle.constraints.specs.Graded.{summed, sigma, pow, Polynomial, coefficient, top, eval, polynomials}
-use Rattle.constraints.specs.GradedLaws.{summed-cong, map-total}
+use Rattle.constraints.specs.Graded.{Polynomial, coefficient, top, eval, polynomials}
+use Rattle.field.specs.Sums.{summed, sigma, pow}
+use Rattle.constraints.specs.GradedLaws.{map-total}
+use Rattle.field.specs.SumLaws.{summed-cong}
 use Rattle.constraints.specs.System.{System, masked, polynomial, Honest}
-use Rattle.constraints.proofs.Sums.{sigma-zero, sigma-add}
+use Rattle.field.proofs.Sums.{sigma-zero, sigma-add}
 use Rattle.constraints.proofs.Coefficients.{coefficient-vector}
 use Rattle.constraints.proofs.Evaluation.{at, at-point, at-eval, at-top}
 use Rattle.constraints.proofs.Agreement.{agreement}

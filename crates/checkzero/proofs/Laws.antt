@@ -16,8 +16,8 @@ use Rattle.field.specs.Ring.{Ring}
 use Rattle.field.specs.RingLaws.{ring}
 use Rattle.field.specs.declared.Level.{Level}
 use Rattle.field.specs.Level.{K}
-use Rattle.field.specs.Word.{words}
-use Rattle.row.specs.Elements.{el, Words}
+use Rattle.field.specs.Word.{words, Words}
+use Rattle.row.specs.Elements.{el}
 use Rattle.row.specs.Polynomial.{sum}
 use Rattle.row.specs.Step.{Put, Added}
 use Rattle.row.proofs.SumLaws.{sum-cong}
@@ -25,10 +25,10 @@ use Rattle.row.proofs.ElementLaws.{part-words, fits-le, fits-all}
 use Rattle.rows.proofs.BlockLaws.{concat-parts}
 use Rattle.folding.specs.Weights.{weightedSum}
 use Rattle.folding.proofs.WeightLaws.{sum-split, added-same, shares-none, shares-more}
-use Rattle.constraints.specs.Graded.{summed, sigma, pow}
+use Rattle.field.specs.Sums.{summed, sigma, pow}
 use Rattle.constraints.specs.Slices.{elementAt}
 use Rattle.constraints.proofs.Link.{sum-sigma}
-use Rattle.constraints.proofs.Sums.{sigma-mul, sigma-first}
+use Rattle.field.proofs.Sums.{sigma-mul, sigma-first}
 use Rattle.checkzero.specs.CheckZero.{shifted, mask, maskSum}
 use Rattle.checkzero.specs.Slices.{every}
 

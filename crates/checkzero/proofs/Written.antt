@@ -18,7 +18,7 @@ use Rattle.field.proofs.Elements.{words-length, element-words}
 use Rattle.field.proofs.Equal.{zero-true, equal-true, words-within}
 use Rattle.key.specs.Key.{below}
 use Rattle.constraints.specs.Graded.{coefficient, top, eval}
-use Rattle.constraints.specs.GradedLaws.{summed-cong}
+use Rattle.field.specs.SumLaws.{summed-cong}
 use Rattle.constraints.specs.System.{System, masked, polynomial}
 use Rattle.constraints.specs.Slices.{bits, elementAt, elements, maskedBytes}
 use Rattle.constraints.specs.Truth.{HonestNumbers}

@@ -6,7 +6,8 @@ use lib.Dec.{eqb}
 use Rattle.field.specs.Ring.{Ring}
 use Rattle.field.specs.Vector.{Vector}
 use Rattle.field.specs.Word.{vector}
-use Rattle.constraints.specs.Graded.{sigma, Graded, total, Polynomial, polynomials, point, coefficient, eval, pow}
+use Rattle.constraints.specs.Graded.{Graded, total, Polynomial, polynomials, point, coefficient, eval}
+use Rattle.field.specs.Sums.{sigma, pow}
 use Rattle.constraints.specs.System.{System, polynomial, value}
 
 module _ (K : Ring) where

@@ -5,7 +5,7 @@ use mathlib.Core.List.{List}
 use Rattle.field.specs.declared.Level.{Level}
 use Rattle.field.specs.Level.{K}
 use Rattle.field.specs.Packed.{Holds}
-use Rattle.constraints.specs.Graded.{sigma, pow}
+use Rattle.field.specs.Sums.{sigma, pow}
 use Rattle.row.specs.Elements.{el}
 use Rattle.row.specs.Polynomial.{column, check}
 use Rattle.row.specs.Lent.{smallOf, entryOf, digitOf, elementOf}

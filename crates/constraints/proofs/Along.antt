@@ -4,13 +4,13 @@ use mathlib.Core.Bool.{Bool, true, false}
 use Prim.Native.Nat.{ℕ, zero, suc}
 use lib.Dec.{ltb}
 use borrow.Author.Tests.{ltb-true, ltb-false}
-use Rattle.field.specs.Ring.{Ring, Hom}
+use Rattle.field.specs.Ring.{Ring, Hom, identity}
 use Rattle.field.specs.RingLaws.{hom-zero}
 use Rattle.field.specs.Vector.{Vector, zeros, sum, scale}
 use Rattle.field.specs.Binary.{xor, bit}
 use Rattle.field.specs.Word.{vector}
 use Rattle.constraints.specs.Graded.{Polynomial, coefficient, linear, raised, linearTimes, polynomials, point}
-use Rattle.constraints.specs.GradedLaws.{identity, Morphism}
+use Rattle.constraints.specs.GradedLaws.{Morphism}
 use Rattle.constraints.specs.System.{polynomial, value}
 use Rattle.constraints.specs.Digits.{Instance}
 use Rattle.constraints.specs.DigitsLaws.{map-digits}

@@ -11,8 +11,9 @@ use Rattle.field.specs.Vector.{Vector, zeros, sum, scale}
 use Rattle.field.specs.Word.{vector}
 use Rattle.field.proofs.Coordinate.{at, ext, at-sum, at-scale, at-zeros}
 use Rattle.field.specs.Binary.{bit}
-use Rattle.constraints.specs.Graded.{sigma, total, product, power, Polynomial, coefficient, linear, raised, linearTimes, polynomials}
-use Rattle.constraints.specs.GradedLaws.{map-summed}
+use Rattle.constraints.specs.Graded.{total, product, power, Polynomial, coefficient, linear, raised, linearTimes, polynomials}
+use Rattle.field.specs.Sums.{sigma}
+use Rattle.field.specs.SumLaws.{map-summed}
 use Rattle.constraints.specs.Digits.{Instance, column, x′, row}
 
 module _ (K : Ring) where

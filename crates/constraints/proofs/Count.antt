@@ -1,37 +1,17 @@
--- How many indices pass a test, and n positions that are the numbers 0 to n - 1, each once.
-use mathlib.Core.Path.{_≡_, refl, _∙_, ap}
+-- n positions that are the numbers 0 to n - 1, each once.
+use mathlib.Core.Path.{_≡_, refl, ap}
 use mathlib.Core.Bool.{Bool, true, false, not, cond, false≢true}
 use Prim.Native.Nat.{ℕ, zero, suc, _+_, _-_, _≤_, _<_}
 use native.Mathlib.Omega.{arith}
 use lib.Dec.{eqb, ltb}
 use borrow.Author.Tests.{ltb-true, ltb-false, eqb-true, eqb-false, lt-ltb, le-ltb}
-use Rattle.constraints.specs.Order.{count, Order}
+use Rattle.lists.specs.Count.{count}
+use Rattle.lists.proofs.Count.{count-le, count-all}
+use Rattle.constraints.specs.Order.{Order}
 
 unfoldable pub parity : ℕ → Bool
 parity zero = false
 parity (suc n) = not (parity n)
-
-one-le : (c : Bool) → cond c 1 0 ≤ 1
-one-le false = omega arith
-one-le true = omega arith
-
-one-true : (c : Bool) → 1 ≤ cond c 1 0 → c ≡ true
-one-true false h = absurd (omega arith)
-one-true true h = refl
-
-pub count-le : (n : ℕ) (test : ℕ → Bool) → count n test ≤ n
-unfolding count
-count-le zero test = omega arith
-count-le (suc n) test = omega (arith, count-le n test, one-le (test n))
-
-pub count-all : (n : ℕ) (test : ℕ → Bool) → n ≤ count n test → (i : ℕ) → i < n → test i ≡ true
-unfolding count
-count-all zero test h i l = absurd (omega arith)
-count-all (suc n) test h i l = last (eqb i n) refl (count-all n test (omega (arith, one-le (test n))) i)
-  where
-    last : (c : Bool) → eqb i n ≡ c → (i < n → test i ≡ true) → test i ≡ true
-    last false e below = below (omega (arith, eqb-false i n e))
-    last true e below = ap test (eqb-true i n e) ∙ one-true (test n) (omega (arith, count-le n test))
 
 -- the tests of a against m + 1, below m and equal to m, by cases
 pub below-cases : (a m : ℕ) (P : Bool → Bool → Bool → Type 0) → (a < m → P true true false) → (a ≡ m → P true false true) → (m < a → P false false false) → P (ltb a (suc m)) (ltb a m) (eqb a m)

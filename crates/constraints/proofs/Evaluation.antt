@@ -2,12 +2,14 @@
 use mathlib.Core.Path.{_≡_, refl, sym, _∙_, ap, ap₂}
 use Prim.Native.Nat.{ℕ, zero, suc, _-_, _<_}
 use native.Mathlib.Omega.{arith}
-use Rattle.field.specs.Ring.{Ring}
+use Rattle.field.specs.Ring.{Ring, identity}
 use Rattle.field.specs.RingLaws.{ring, zero-add, zero-mul}
 use Rattle.field.specs.Vector.{zeros, sum, scale}
-use Rattle.constraints.specs.Graded.{summed, sigma, product, power, pow, Polynomial, coefficient, top, eval, linear, raised, linearTimes, polynomials, point}
-use Rattle.constraints.specs.GradedLaws.{identity, Morphism, summed-cong}
-use Rattle.constraints.proofs.Sums.{sigma-zero, sigma-add, sigma-mul, sigma-first}
+use Rattle.constraints.specs.Graded.{product, power, Polynomial, coefficient, top, eval, linear, raised, linearTimes, polynomials, point}
+use Rattle.field.specs.Sums.{summed, sigma, pow}
+use Rattle.constraints.specs.GradedLaws.{Morphism}
+use Rattle.field.specs.SumLaws.{summed-cong}
+use Rattle.field.proofs.Sums.{sigma-zero, sigma-add, sigma-mul, sigma-first}
 use Rattle.constraints.proofs.Coefficients.{coefficient-zeros, coefficient-sum, coefficient-scale, coefficient-above, coefficient-times}
 
 module _ (K : Ring) where

@@ -14,7 +14,8 @@ use Rattle.refusal.specs.declared.Answer.the-variants.{Done}
 use Rattle.field.specs.declared.Level.{Level}
 use Rattle.field.specs.Level.{FIRST, levelAt}
 use Rattle.field.proofs.Fields.{bounded, first-most, first-narrow}
-use Rattle.row.specs.Elements.{Fits, Words, Bits}
+use Rattle.field.specs.Word.{Words}
+use Rattle.row.specs.Elements.{Fits, Bits}
 use Rattle.row.specs.Lent.{LentKey, LentTarget}
 use Rattle.key.specs.declared.Key.{Key}
 use Rattle.key.specs.declared.Lengths.{Lengths}
@@ -99,7 +100,7 @@ module _ (number : ℕ) (key : Key) where
 
   pub constraints-fine : (lent : KeySlices) (positions u v t p : List ℕ) → firstOf (constraintsRows l key lent positions u v t p) ≡ Done → ConstraintsFine lent positions u v t p
   constraints-fine lent positions u v t p e =
-      let c = checked l key (long (constraintsLent len lent positions u v t p)) (keyWithin l lent) (below 1 u) (withins l (v ∷ [])) (codesOf (key .n) positions) e in
+      let c = checked l key (long (constraintsLent len lent positions u v t p)) lent (below 1 u) (withins l (v ∷ [])) (codesOf (key .n) positions) e in
       let s = each-long (constraintsLent len lent positions u v t p) (c .slices-fine) in
       record {
         is-sized = c .is-sized;
@@ -129,7 +130,7 @@ module _ (number : ℕ) (key : Key) where
 
   pub values-fine : (lent : KeySlices) (t q Δ p : List ℕ) → firstOf (valuesRows l key lent t q Δ p) ≡ Done → ValuesFine lent t q Δ p
   values-fine lent t q Δ p e =
-      let c = checked l key (long (valuesLent len lent t q Δ p)) (keyWithin l lent) (below 1 t) (withins l (q ∷ Δ ∷ [])) Column e in
+      let c = checked l key (long (valuesLent len lent t q Δ p)) lent (below 1 t) (withins l (q ∷ Δ ∷ [])) Column e in
       let s = each-long (valuesLent len lent t q Δ p) (c .slices-fine) in
       let f = each-within l (q ∷ Δ ∷ []) (c .coordinates-fine) in
       record {

@@ -1,4 +1,3 @@
-pub mod Sums
 pub mod Coefficients
 pub mod Products
 pub mod Evaluation

@@ -14,7 +14,7 @@ use Rattle.field.specs.Ring.{Ring, Hom}
 use Rattle.field.specs.Binary.{xor, bit}
 use Rattle.field.specs.declared.Level.{Level}
 use Rattle.field.specs.Level.{F, K, embed}
-use Rattle.field.specs.Word.{odd, small, element, words}
+use Rattle.field.specs.Word.{odd, small, element, words, smallAt}
 use Rattle.row.specs.Lists.{tab}
 use Rattle.row.specs.Elements.{el, Bits}
 use Rattle.row.specs.Polynomial as R
@@ -22,11 +22,12 @@ use Rattle.field.specs.RingLaws.{ring, one-mul}
 use Rattle.row.specs.Lent.{smallOf, entryOf, digitOf, bitOf, elementOf}
 use Rattle.rows.specs.Outcome as O
 use Rattle.key.specs.Key.{degree, KeySlices}
-use Rattle.constraints.specs.Graded.{summed, sigma, product, power, Polynomial, coefficient, linear, raised, polynomials, point}
+use Rattle.constraints.specs.Graded.{product, power, Polynomial, coefficient, linear, raised, polynomials, point}
+use Rattle.field.specs.Sums.{summed, sigma}
 use Rattle.constraints.specs.System.{System, masked, polynomial, value}
 use Rattle.constraints.specs.Digits.{Instance, digitIn, digit, witness, factor, z, column, x′, row, constraint}
 use Rattle.constraints.specs.Modelling.{digits}
-use Rattle.constraints.specs.Slices.{bits, smallAt, elementAt, elements, keyOf, systemOf, witnessOf, maskedBytes, polynomialWords, valueWords}
+use Rattle.constraints.specs.Slices.{bits, elementAt, elements, keyOf, systemOf, witnessOf, maskedBytes, polynomialWords, valueWords}
 use Rattle.constraints.proofs.Coefficients.{coefficient-column, coefficient-row, coefficient-x′}
 use Rattle.constraints.proofs.Products.{tail, z-tail, point-reversed}
 use Rattle.constraints.proofs.Join.{join-left, join-right}
@@ -37,7 +38,7 @@ module _ (A : Ring) where
   infixl 60 _⊕_
   infixl 70 _⊗_
   pub sum-sigma : (n : ℕ) (f : ℕ → Carrier) → R.sum A n f ≡ sigma A n f
-  unfolding R.sum sigma summed
+  unfolding R.sum summed
   sum-sigma zero f = refl
   sum-sigma (suc n) f = ap (λ s. s ⊕ f n) (sum-sigma n f)
 

@@ -9,10 +9,12 @@ use borrow.Author.Tests.{lt-ltb, le-ltb}
 use Rattle.field.specs.Ring.{Ring, Hom}
 use Rattle.field.specs.RingLaws.{ring, zero-add, mul-zero, add-equal, hom-zero}
 use Rattle.field.specs.Binary.{bit}
-use Rattle.constraints.specs.Graded.{summed, sigma, point}
-use Rattle.constraints.specs.GradedLaws.{summed-cong, map-summed}
+use Rattle.constraints.specs.Graded.{point}
+use Rattle.field.specs.Sums.{summed, sigma}
+use Rattle.field.specs.SumLaws.{summed-cong, map-summed}
 use Rattle.constraints.specs.Digits.{Instance, column, x′, row}
-use Rattle.constraints.specs.Order.{count, Order, Solves}
+use Rattle.constraints.specs.Order.{Order, Solves}
+use Rattle.lists.specs.Count.{count}
 use Rattle.field.proofs.Bits.{bit-add}
 use Rattle.constraints.proofs.Evaluation.{pow-one, power-point}
 use Rattle.constraints.proofs.Count.{below-cases, parity, parity-pos, order, order-below}

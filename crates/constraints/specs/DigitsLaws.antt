@@ -6,7 +6,8 @@ use lib.Dec.{ltb}
 use borrow.Author.Tests.{ltb-true}
 use Rattle.field.specs.Ring.{Ring, Hom}
 use Rattle.constraints.specs.Graded.{Graded, total, power}
-use Rattle.constraints.specs.GradedLaws.{Morphism, summed-cong, product-cong, map-total, map-product, map-power}
+use Rattle.constraints.specs.GradedLaws.{Morphism, product-cong, map-total, map-product, map-power}
+use Rattle.field.specs.SumLaws.{summed-cong}
 use Rattle.constraints.specs.Digits.{Instance, digit, factor, z, column, x′, row, join, constraint}
 
 pub join-cong : {A : Type 0} (n : ℕ) (f f′ g g′ : ℕ → A) → ((j : ℕ) → j < n → f j ≡ f′ j) → ((e : ℕ) → g e ≡ g′ e) → (j : ℕ) → join n f g j ≡ join n f′ g′ j

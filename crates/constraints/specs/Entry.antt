@@ -10,7 +10,7 @@ use Rattle.field.specs.Level.{K}
 use Rattle.key.specs.declared.Key.{Key}
 use Rattle.key.specs.declared.Lengths.{Lengths}
 use Rattle.key.specs.declared.Code.the-variants.{Column}
-use Rattle.key.specs.Key.{KeySlices, lengths, sizes, keyLent, keyWithin, below, codesOf, withins, checks}
+use Rattle.key.specs.Key.{KeySlices, lengths, sizes, keyLent, below, codesOf, withins, checks, Leans}
 use Rattle.constraints.specs.System.{System}
 use Rattle.constraints.specs.Slices.{maskedBytes, polynomialWords, valueWords, systemOf, witnessOf}
 
@@ -28,10 +28,17 @@ module _ (l : Level) (key : Key) where
 
   -- the refusals of each, in order
   abbrev pub constraintsRows : KeySlices → (positions u v t p : List ℕ) → List (Bool × ℕ)
-  constraintsRows lent positions u v t p = sizes l key ++ checks (long (constraintsLent (lengths l key) lent positions u v t p)) (keyWithin l lent) (below 1 u) (withins l (v ∷ [])) (codesOf (key .n) positions)
+  constraintsRows lent positions u v t p = sizes l key ++ checks l key (long (constraintsLent (lengths l key) lent positions u v t p)) lent (below 1 u) (withins l (v ∷ [])) (codesOf (key .n) positions)
 
   abbrev pub valuesRows : KeySlices → (t q Δ p : List ℕ) → List (Bool × ℕ)
-  valuesRows lent t q Δ p = sizes l key ++ checks (long (valuesLent (lengths l key) lent t q Δ p)) (keyWithin l lent) (below 1 t) (withins l (q ∷ Δ ∷ [])) Column
+  valuesRows lent t q Δ p = sizes l key ++ checks l key (long (valuesLent (lengths l key) lent t q Δ p)) lent (below 1 t) (withins l (q ∷ Δ ∷ [])) Column
+
+  -- past 1 to 4, 15 is the answer exactly when the rows of H lean on each other
+  abbrev pub constraintsLeans : KeySlices → (positions u v t p : List ℕ) → (IsFifteen : Type 0) → Type 0
+  constraintsLeans lent positions u v t p = Leans l key (long (constraintsLent (lengths l key) lent positions u v t p)) lent
+
+  abbrev pub valuesLeans : KeySlices → (t q Δ p : List ℕ) → (IsFifteen : Type 0) → Type 0
+  valuesLeans lent t q Δ p = Leans l key (long (valuesLent (lengths l key) lent t q Δ p)) lent
 
   -- t and the polynomials, as they are left
   unfoldable pub constraintsOutcome : KeySlices → (positions u v t p : List ℕ) → Answer × (List ℕ × List ℕ)

@@ -1,17 +1,9 @@
 -- Polynomials over a ring K by their coefficients, and elements of K with a value for X: one set of operations for both.
 use Prim.Native.Nat.{ℕ, zero, suc}
 use Rattle.field.specs.Ring.{Ring}
+use Rattle.field.specs.Sums.{summed, sigma, pow}
 use Rattle.field.specs.Vector.{Vector, zeros, sum, scale}
 use Rattle.field.specs.Word.{vector}
-
--- f 0 + f 1 + .. + f (n - 1), for a sum `plus` and `nil`, the sum of nothing
-unfoldable pub summed : {A : Type 0} → A → (A → A → A) → (n : ℕ) → (ℕ → A) → A
-summed nil plus zero f = nil
-summed nil plus (suc n) f = plus (summed nil plus n f) (f n)
-
--- the sum of f i over i below n, in a ring
-abbrev pub sigma : (R : Ring) (n : ℕ) → (ℕ → R .Carrier) → R .Carrier
-sigma R n f = summed (R .zero) (R .add) n f
 
 -- What constraints are made with. `Value d` holds the polynomials of degree at most d, or what stands for them:
 -- sums, multiples by elements of K, one, X, and products with a value of degree at most 1.
@@ -43,11 +35,6 @@ module _ (K : Ring) where
 
   infixl 60 _⊕_
   infixl 70 _⊗_
-  -- x^k
-  unfoldable pub pow : Carrier → ℕ → Carrier
-  pow x zero = 𝟙
-  pow x (suc k) = x ⊗ pow x k
-
   -- "d + 1 coefficients, lowest power first": a polynomial of degree at most d
   abbrev pub Polynomial : ℕ → Type 0
   Polynomial d = Vector Carrier (suc d)
@@ -64,7 +51,7 @@ module _ (K : Ring) where
 
   -- "A polynomial at Δ is the sum of each coefficient times its power of Δ; the power 0 is one, for Δ zero too", of n coefficients
   unfoldable pub eval : (n : ℕ) → Vector Carrier n → Carrier → Carrier
-  eval n p Δ = sigma K n (λ k. coefficient n p k ⊗ pow Δ k)
+  eval n p Δ = sigma K n (λ k. coefficient n p k ⊗ pow K Δ k)
 
   -- b X + v
   abbrev pub linear : Carrier → Carrier → Polynomial 1

@@ -1,8 +1,7 @@
 -- The digits modelling as a system of constraints.
 use mathlib.Core.Path.{refl}
 use Prim.Native.Nat.{ℕ, _+_}
-use Rattle.field.specs.Ring.{Ring, Hom}
-use Rattle.constraints.specs.GradedLaws.{identity}
+use Rattle.field.specs.Ring.{Ring, Hom, identity}
 use Rattle.constraints.specs.System.{System}
 use Rattle.constraints.specs.Digits.{Instance, z, constraint}
 use Rattle.constraints.specs.DigitsLaws.{map-digits, digits-cong}

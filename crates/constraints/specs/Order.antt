@@ -1,16 +1,11 @@
 -- Positions that solve a key.
 use mathlib.Core.Path.{_≡_}
-use mathlib.Core.Bool.{Bool, cond}
-use Prim.Native.Nat.{ℕ, zero, suc, _+_, _<_}
+use Prim.Native.Nat.{ℕ, _<_}
 use lib.Dec.{eqb}
+use Rattle.lists.specs.Count.{count}
 use Rattle.field.specs.Ring.{Ring}
-use Rattle.constraints.specs.Graded.{sigma}
+use Rattle.field.specs.Sums.{sigma}
 use Rattle.constraints.specs.Digits.{Instance}
-
--- how many i below n pass the test
-unfoldable pub count : (n : ℕ) → (ℕ → Bool) → ℕ
-count zero test = 0
-count (suc n) test = count n test + cond (test n) 1 0
 
 -- "the positions are the numbers 0 to n - 1, each once": each number below n is exactly one of the n positions
 abbrev pub Order : ℕ → (ℕ → ℕ) → Type 0

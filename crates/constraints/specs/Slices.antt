@@ -7,7 +7,7 @@ use Rattle.lists.specs.Words.{part, concat}
 use Rattle.field.specs.Ring.{Ring}
 use Rattle.field.specs.declared.Level.{Level}
 use Rattle.field.specs.Level.{F, K, embed}
-use Rattle.field.specs.Word.{odd, vector, small, element, words}
+use Rattle.field.specs.Word.{odd, vector, smallAt, element, words}
 use Rattle.constraints.specs.Graded.{Polynomial, coefficient}
 use Rattle.constraints.specs.System.{System, masked, polynomial, value}
 use Rattle.key.specs.Key.{degree, KeySlices}
@@ -23,10 +23,7 @@ unfoldable pub maskedBytes : {K : Ring} (S : System K) (w : ℕ → ℕ → Bool
 maskedBytes S w u = concat (S .rows) (λ i. concat (S .places) (λ k. cond (masked w (bits (S .places) u) i k) 1 0 ∷ []))
 
 module _ (l : Level) where
-  -- element i of a slice of elements of F, "one word" each, and of a slice of elements of K, "coordinate 0 first"
-  unfoldable pub smallAt : List ℕ → ℕ → F l .Carrier
-  smallAt s i = small l (getD s i 0)
-
+  -- element i of a slice of elements of K, "coordinate 0 first"
   unfoldable pub elementAt : List ℕ → ℕ → K l .Carrier
   elementAt s i = element l (part (l .coordinates * i) (l .coordinates) s)
 
@@ -49,7 +46,7 @@ module _ (l : Level) where
 
   -- "H has m rows of n elements of F, row after row. The vector x has n elements of F.", and "a target y of m elements of F"
   abbrev pub keyOf : (n m : ℕ) → KeySlices → Instance (F l)
-  keyOf n m lent = record { n = n; m = m; H = λ e i. smallAt (lent .h) (e * n + i); x = smallAt (lent .x); y = smallAt (lent .y) }
+  keyOf n m lent = record { n = n; m = m; H = λ e i. smallAt l (lent .h) (e * n + i); x = smallAt l (lent .x); y = smallAt l (lent .y) }
 
   -- the system of a key, with d digits
   abbrev pub systemOf : (n m : ℕ) → KeySlices → System (K l)

@@ -2,10 +2,10 @@
 use mathlib.Core.Path.{_≡_}
 use mathlib.Core.Bool.{Bool}
 use Prim.Native.Nat.{ℕ, _<_}
-use Rattle.field.specs.Ring.{Ring}
+use Rattle.field.specs.Ring.{Ring, identity}
 use Rattle.field.specs.Binary.{xor, bit}
 use Rattle.constraints.specs.Graded.{Graded, Polynomial, linear, polynomials, point}
-use Rattle.constraints.specs.GradedLaws.{identity, Morphism}
+use Rattle.constraints.specs.GradedLaws.{Morphism}
 
 -- `size` constraints of degree at most `degree`, for witness bits (i,k) with i below `rows` and k below `places`.
 -- They are made of X and of the factors f i k c, where f i k c is that of the bit (i,k) exclusive-or c.

@@ -27,7 +27,7 @@ module _ (l : Level) (S : System (K l)) where
     pub each : (q Δ : List ℕ) → HonestNumbers u v q Δ → (j : ℕ) → j < S .size → elementAt l (valueWords l S t q Δ) j ≡ evaluated p Δ j
     pub whole : (q Δ : List ℕ) → HonestNumbers u v q Δ → valueWords l S t q Δ ≡ concat (S .size) (λ j. words l (evaluated p Δ j))
 
--- of a key, its prover's positions, mask bits u and offsets v, and the masked witness t and polynomials p made of them
+-- of a well-formed key, its prover's positions, mask bits u and offsets v, and the masked witness t and polynomials p made of them
 pub record Truth (l : Level) (n m : ℕ) (lent : KeySlices) (positions u v t p : List ℕ) : Type 0 where
   -- "wherever the entry values is handed that key, that masked witness and that challenge"
   pub agrees : Agrees l (systemOf l n m lent) u v t p

@@ -3,12 +3,13 @@ ghost use mathlib.Core.Path.{_≡_};
 ghost use lib.Dec.{eqb};
 ghost use lib.ListN.{length};
 ghost use Rattle.lists.specs.Lent.{long};
-ghost use Rattle.refusal.specs.Answer.{firstOf};
+ghost use Rattle.refusal.specs.Answer.{refusal, firstOf};
 ghost use Rattle.field.specs.Level.{FIRST, levelAt};
-ghost use Rattle.row.specs.Elements.{Words, Bits};
+ghost use Rattle.field.specs.Word.{Words};
+ghost use Rattle.row.specs.Elements.{Bits};
 ghost use Rattle.row.specs.Lent.{LentKey, LentTarget};
 ghost use Rattle.key.specs.Key.{Sized, KeySlices, keySlices, lengths};
-ghost use Rattle.constraints.specs.Entry.{constraintsLent, constraintsRows, constraintsOutcome, valuesLent, valuesRows, valuesOutcome, system};
+ghost use Rattle.constraints.specs.Entry.{constraintsLent, constraintsRows, constraintsOutcome, constraintsLeans, valuesLent, valuesRows, valuesOutcome, valuesLeans, system};
 ghost use Rattle.refusal.specs.declared.Answer.the-variants.{Done};
 ghost use Rattle.constraints.specs.Slices.{maskedBytes, polynomialWords, valueWords, witnessOf};
 ghost use Rattle.constraints.specs.Truth.{Truth};
@@ -67,10 +68,13 @@ fn constraints_refused(
     if lengths != 0 {
         return Answer::Refused(Refusal::SLICE_LENGTH);
     }
-    let elements = key::excess(h, x, y, FIRST);
+    let contents = key.contents(h, x, y, FIRST);
+    if let Answer::Refused(_) = contents {
+        return contents;
+    }
     // Spare codes are taken: the digit of TooLarge alone is kept, which their number does not have.
     let code = key.codes(positions) & Code::TOO_LARGE;
-    key::contents(elements, key::over(u, 1), field::excess(v, FIRST), code)
+    key::material(key::over(u, 1), field::excess(v, FIRST), code)
 }
 
 // Zero exactly when each slice of values has its length.
@@ -114,9 +118,12 @@ fn values_refused(
     if lengths != 0 {
         return Answer::Refused(Refusal::SLICE_LENGTH);
     }
-    let elements = key::excess(h, x, y, FIRST);
+    let contents = key.contents(h, x, y, FIRST);
+    if let Answer::Refused(_) = contents {
+        return contents;
+    }
     let coordinates = field::excess(q, FIRST) | field::excess(delta, FIRST);
-    key::contents(elements, key::over(t, 1), coordinates, Code::COLUMN)
+    key::material(key::over(t, 1), coordinates, Code::COLUMN)
 }
 
 // Writes the masked witness.
@@ -174,6 +181,7 @@ pub fn constraints(
     polynomials: &mut [u16],
 ) -> Answer
     ensures outcome { λ r. ⌜ (r, (now (t .exit), now (polynomials .exit))) ≡ constraintsOutcome (levelAt FIRST) key (keySlices (now (h .entry)) (now (x .entry)) (now (y .entry))) (now (positions .entry)) (now (u .entry)) (now (v .entry)) (now (t .entry)) (now (polynomials .entry)) ⌝ }
+    ensures leans { λ r. ⌜ constraintsLeans (levelAt FIRST) key (keySlices (now (h .entry)) (now (x .entry)) (now (y .entry))) (now (positions .entry)) (now (u .entry)) (now (v .entry)) (now (t .entry)) (now (polynomials .entry)) (r ≡ refusal 15) ⌝ }
     ensures truth { λ r. ⌜ (r ≡ Done → Truth (levelAt FIRST) (key .n) (key .m) (keySlices (now (h .entry)) (now (x .entry)) (now (y .entry))) (now (positions .entry)) (now (u .entry)) (now (v .entry)) (now (t .exit)) (now (polynomials .exit))) ⌝ }
 {
     let answer = constraints_refused(key, h, x, y, positions, u, v, t, polynomials);
@@ -232,7 +240,8 @@ pub fn values(
     delta: &[u16],
     values: &mut [u16],
 ) -> Answer
-    ensures { λ r. ⌜ (r, now (values .exit)) ≡ valuesOutcome (levelAt FIRST) key (keySlices (now (h .entry)) (now (x .entry)) (now (y .entry))) (now (t .entry)) (now (q .entry)) (now (delta .entry)) (now (values .entry)) ⌝ }
+    ensures outcome { λ r. ⌜ (r, now (values .exit)) ≡ valuesOutcome (levelAt FIRST) key (keySlices (now (h .entry)) (now (x .entry)) (now (y .entry))) (now (t .entry)) (now (q .entry)) (now (delta .entry)) (now (values .entry)) ⌝ }
+    ensures leans { λ r. ⌜ valuesLeans (levelAt FIRST) key (keySlices (now (h .entry)) (now (x .entry)) (now (y .entry))) (now (t .entry)) (now (q .entry)) (now (delta .entry)) (now (values .entry)) (r ≡ refusal 15) ⌝ }
 {
     let answer = values_refused(key, h, x, y, t, q, delta, values);
     match answer {

@@ -9,19 +9,21 @@ use lib.ListN.{take}
 use lib.Seq.{drop-nil, drop-append-add}
 use Rattle.lists.specs.Words.{part, concat}
 use Rattle.lists.proofs.Concat.{concat-cong}
-use Rattle.field.specs.Ring.{Ring, Hom}
+use Rattle.field.specs.Ring.{Ring, Hom, identity}
 use Rattle.field.specs.RingLaws.{hom-zero}
 use Rattle.field.specs.Vector.{zeros as 𝟘s, unit, scale}
 use Rattle.field.specs.VectorLaws.{scale-zeros}
 use Rattle.field.specs.Quotient.{constant}
 use Rattle.field.specs.Level.{first, F, K, embed}
-use Rattle.field.specs.Word.{digits, number, vector, list, small, word, element, words}
+use Rattle.field.specs.Word.{digits, number, vector, list, small, word, element, words, smallAt}
 use Rattle.key.specs.Key.{degree}
-use Rattle.constraints.specs.Graded.{sigma, total, polynomials, coefficient}
-use Rattle.constraints.specs.GradedLaws.{identity, map-summed, map-total}
+use Rattle.constraints.specs.Graded.{total, polynomials, coefficient}
+use Rattle.field.specs.Sums.{sigma}
+use Rattle.constraints.specs.GradedLaws.{map-total}
+use Rattle.field.specs.SumLaws.{map-summed}
 use Rattle.constraints.specs.System.{System, polynomial, value, Honest}
 use Rattle.constraints.specs.Modelling.{digits as system}
-use Rattle.constraints.specs.Slices.{bits, smallAt, elementAt, elements, polynomialWords, valueWords, keyOf, witnessOf}
+use Rattle.constraints.specs.Slices.{bits, elementAt, elements, polynomialWords, valueWords, keyOf, witnessOf}
 use Rattle.constraints.specs.Truth.{HonestNumbers}
 use Rattle.constraints.proofs.Coefficients.{coefficient-ext, coefficient-vector}
 use Rattle.constraints.proofs.Along.{map-bit, each, coefficient-each, each-polynomial, polynomial-along, value-along}

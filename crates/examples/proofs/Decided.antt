@@ -9,13 +9,16 @@ use Rattle.lists.specs.Words.{all}
 use Rattle.refusal.specs.Answer.{firstOf, refusal}
 use Rattle.refusal.specs.declared.Answer.the-variants.{Done}
 use Rattle.refusal.proofs.Answers.{result-of}
-use Rattle.field.specs.Level.{FIRST, first, levelAt}
-use Rattle.field.specs.Word.{within}
+use Rattle.field.specs.Level.{FIRST, first, levelAt, F}
+use Rattle.field.specs.Word.{within, smallAt, small, word, digits, number}
 use Rattle.key.specs.Key.{degree, lengths, below, codeOf, codesOf}
 use Rattle.prover.specs.Entry.{rowsTo7, proveRows, topsRow, proveResult, proveOutcome}
 use Rattle.prover.specs.Solved.{SolvesKey, HasSpare}
 use Rattle.prover.proofs.Solved.{solved, passes}
 use Rattle.examples.specs.Starred.{bares, Numbers, sizes, proveOf, three}
+use Rattle.elimination.specs.Elimination.{lowest, pivot, column, after, rank}
+use Rattle.elimination.specs.Rank.{isZero, rankOf}
+use Rattle.lists.specs.Count.{count}
 
 module _ (key : Numbers) where
   -- t and a, as they are lent
@@ -28,7 +31,7 @@ module _ (key : Numbers) where
 module _ (key : Numbers) (positions : List ℕ) where
   open Numbers key using (lent, v, u, r, s, α)
 
-  -- none of refusals 1 to 7 applies
+  -- none of refusals 1 to 7 and 15 applies
   abbrev pub Passes : Type 0
   Passes = firstOf (rowsTo7 first (sizes key) lent positions u (bares v) (bares r) (bares s) (bares α) (t₀ key) (a₀ key)) ≡ Done
 
@@ -58,4 +61,4 @@ module _ (key : Numbers) (positions : List ℕ) where
 
 -- the last of the positions 0 1 3 is a spare code
 pub three-16 : proveOf three (0 ∷ 1 ∷ 3 ∷ []) .0 ≡ refusal 16
-three-16 = answers-16 three (0 ∷ 1 ∷ 3 ∷ []) (unfold bares degree leadingZeros below codesOf codeOf within all in refl) (2, omega arith, unfold codeOf degree leadingZeros in refl)
+three-16 = answers-16 three (0 ∷ 1 ∷ 3 ∷ []) (unfold bares degree leadingZeros below codesOf codeOf within all rankOf rank count after column pivot lowest isZero smallAt small word digits number F in refl) (2, omega arith, unfold codeOf degree leadingZeros in refl)

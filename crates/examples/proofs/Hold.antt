@@ -6,12 +6,13 @@ use Rattle.lists.specs.Words.{concat}
 use Rattle.field.specs.Vector.{zeros as 𝟘s, unit, sum, scale, push, top}
 use Rattle.field.specs.Quotient.{rule, timesX, horner, times}
 use Rattle.field.specs.Level.{F, K}
-use Rattle.field.specs.Word.{digits, number, vector, list, small, word, element, words}
+use Rattle.field.specs.Word.{digits, number, vector, list, small, word, element, words, smallAt}
 use Rattle.key.specs.Key.{degree}
-use Rattle.constraints.specs.Graded.{summed, product, power, coefficient, raised, linearTimes}
+use Rattle.constraints.specs.Graded.{product, power, coefficient, raised, linearTimes}
+use Rattle.field.specs.Sums.{summed}
 use Rattle.constraints.specs.System.{masked, polynomial, value}
 use Rattle.constraints.specs.Digits.{digitIn, witness, factor, z, column, x′, row, join, constraint}
-use Rattle.constraints.specs.Slices.{bits, maskedBytes, smallAt}
+use Rattle.constraints.specs.Slices.{bits, maskedBytes}
 use Rattle.examples.specs.Starred.{Example, inF, inK, bares, tOf, columnTops, starred}
 use Rattle.examples.proofs.Carried.{numbersAt, polynomials-carried, values-carried}
 use Rattle.examples.proofs.Decided.{three-16}

@@ -12,16 +12,18 @@ use Rattle.field.specs.Ring.{Ring}
 use Rattle.field.specs.RingLaws.{ring}
 use Rattle.field.specs.Vector.{zeros as 𝟘s, unit, sum, scale, push, top}
 use Rattle.field.specs.Quotient.{rule, timesX, horner, times}
-use Rattle.field.specs.Level.{first, levelAt, F, K, embed}
-use Rattle.field.specs.Word.{digits, number, vector, small, word, element, within}
+use Rattle.field.specs.Level.{FIRST, first, levelAt, F, K, embed}
+use Rattle.field.specs.Word.{digits, number, vector, small, word, element, within, smallAt}
 use Rattle.field.proofs.Fields.{embed-injective}
 use Rattle.key.specs.Key.{degree, below, codeOf, codesOf}
-use Rattle.constraints.specs.Graded.{summed, product, power, pow, coefficient, eval, raised, linearTimes}
+use Rattle.constraints.specs.Graded.{product, power, coefficient, eval, raised, linearTimes}
+use Rattle.field.specs.Sums.{summed, pow}
 use Rattle.constraints.specs.System.{masked, polynomial, Honest}
 use Rattle.constraints.specs.Digits.{digitIn, witness, factor, z, column, x′, row, join, constraint}
-use Rattle.constraints.specs.Order.{count, Order, Solves}
+use Rattle.constraints.specs.Order.{Order, Solves}
+use Rattle.lists.specs.Count.{count}
 use Rattle.constraints.specs.Entry.{system}
-use Rattle.constraints.specs.Slices.{bits, maskedBytes, smallAt, elementAt, keyOf, positionAt}
+use Rattle.constraints.specs.Slices.{bits, maskedBytes, elementAt, keyOf, positionAt}
 use Rattle.checkzero.specs.CheckZero.{mask, weighted, f, proof}
 use Rattle.checkzero.specs.Slices.{proofAt, AcceptsSlices}
 use Rattle.verifier.specs.Entry.{verifyRows, verifyOutcome, Judges}
@@ -31,6 +33,8 @@ use Rattle.verifier.proofs.Judged.{told}
 use Rattle.examples.specs.Starred.{bare, bares, sizes, proveOf, verdictOf, A}
 use Rattle.examples.proofs.Carried.{overF, numbersAt, element-bares, honest-carried, proof-carried}
 use Rattle.examples.proofs.Decided.{t₀, a₀, Passes, left}
+use Rattle.elimination.specs.Elimination.{lowest, pivot, column as clearing, after, rank}
+use Rattle.elimination.specs.Rank.{isZero, rankOf}
 
 abbrev positions : List ℕ
 positions = 0 ∷ 1 ∷ []
@@ -48,7 +52,7 @@ abbrev masks : List ℕ
 masks = bares []
 
 passes : Passes A positions
-unfolding bares degree leadingZeros below codesOf codeOf within all
+unfolding bares degree leadingZeros below codesOf codeOf within all rankOf rank count after clearing pivot lowest isZero smallAt small word digits number F
 passes = refl
 
 order : Order 2 (positionAt positions)
@@ -123,14 +127,14 @@ one-proof a b h k = embed-injective first (omega arith) (small first a) (small f
     is a = at-Δ (K first) (elementAt first (bares (a ∷ []))) (element first Δ) ∙ element-bares (a ∷ []) 0
 
 judges : (a : ℕ) → Judges first (sizes A) (A .lent) t q Δ masks (bares (A .α)) (bares (a ∷ [])) (verdictOf A t (3 ∷ 4 ∷ []) 2 [] (a ∷ []) ≡ Accepted) (verdictOf A t (3 ∷ 4 ∷ []) 2 [] (a ∷ []) ≡ Rejected)
-unfolding verdictOf verifyOutcome
-judges a = told first (sizes A) (A .lent) t q Δ masks (bares (A .α)) (bares (a ∷ [])) refl refl refl refl refl .1
+unfolding verdictOf verifyOutcome levelAt
+judges a = told FIRST (sizes A) (A .lent) t q Δ masks (bares (A .α)) (bares (a ∷ [])) refl refl refl refl refl .1 .1
 
 pub A-rejected : verdictOf A (1 ∷ 1 ∷ []) (3 ∷ 4 ∷ []) 2 [] (4 ∷ []) ≡ Rejected
 A-rejected = judges 4 .rejected .1 (not-refused, λ h. differ (ap (word first) (one-proof 4 5 h (judges 5 .accepted .0 A-accepted .1))))
   where
     not-refused : firstOf (verifyRows first (sizes A) (A .lent) t q Δ masks (bares (A .α)) (bares (4 ∷ []))) ≡ Done
-    not-refused = unfold bares degree leadingZeros below within all in refl
+    not-refused = unfold bares degree leadingZeros below within all rankOf rank count after clearing pivot lowest isZero smallAt small word digits number F in refl
 
     differ : word first (small first 4) ≡ word first (small first 5) → ⊥
     differ e = unfold word small digits number F in omega (arith, e)

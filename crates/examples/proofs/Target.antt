@@ -10,18 +10,22 @@ use Rattle.refusal.specs.declared.Answer.the-variants.{Done}
 use Rattle.field.specs.Vector.{zeros as 𝟘s, unit, sum, scale, push, top}
 use Rattle.field.specs.Quotient.{rule, timesX, horner, times}
 use Rattle.field.specs.Level.{first, F}
-use Rattle.field.specs.Word.{digits, number, vector, small, word, within}
+use Rattle.field.specs.Word.{digits, number, vector, small, word, within, smallAt}
 use Rattle.key.specs.Key.{degree, below, codeOf, codesOf}
-use Rattle.constraints.specs.Graded.{summed, product, power, coefficient, raised, linearTimes}
+use Rattle.constraints.specs.Graded.{product, power, coefficient, raised, linearTimes}
+use Rattle.field.specs.Sums.{summed}
 use Rattle.constraints.specs.System.{masked, polynomial, value}
 use Rattle.constraints.specs.Digits.{digitIn, witness, factor, z, column, x′, row, join, constraint}
-use Rattle.constraints.specs.Order.{count, Order, Solves}
-use Rattle.constraints.specs.Slices.{bits, maskedBytes, smallAt, keyOf, positionAt}
+use Rattle.constraints.specs.Order.{Order, Solves}
+use Rattle.lists.specs.Count.{count}
+use Rattle.constraints.specs.Slices.{bits, maskedBytes, keyOf, positionAt}
 use Rattle.checkzero.specs.CheckZero.{mask, weighted, f, proof}
 use Rattle.examples.specs.Starred.{Example, bares, tOf, proveOf}
 use Rattle.examples.specs.Target.{A₅, targets}
 use Rattle.examples.proofs.Carried.{numbersAt, polynomials-carried, values-carried, proof-carried}
 use Rattle.examples.proofs.Decided.{Passes, PassesAll, Solving, answers-done, answers-8, left}
+use Rattle.elimination.specs.Elimination.{lowest, pivot, column as clearing, after, rank}
+use Rattle.elimination.specs.Rank.{isZero, rankOf}
 
 solves : Solves (keyOf first 2 1 (A₅ .lent)) (positionAt (1 ∷ 0 ∷ []))
 unfolding summed smallAt small digits F times horner timesX rule 𝟘s unit sum scale push top
@@ -38,7 +42,7 @@ done : proveOf A₅ (1 ∷ 0 ∷ []) .0 ≡ Done
 done = answers-done A₅ (1 ∷ 0 ∷ []) passes (order, solves)
   where
     passes : Passes A₅ (1 ∷ 0 ∷ [])
-    passes = unfold bares degree leadingZeros below codesOf codeOf within all in refl
+    passes = unfold bares degree leadingZeros below codesOf codeOf within all rankOf rank count after clearing pivot lowest isZero smallAt small word digits number F in refl
 
 proof-left : proveOf A₅ (1 ∷ 0 ∷ []) .1 .1 ≡ bares (5 ∷ [])
 proof-left = ap (λ (p : List ℕ × List ℕ). p .1) (left A₅ (1 ∷ 0 ∷ []) done) ∙ proof-carried A₅ (1 ∷ 0 ∷ [])
@@ -50,7 +54,7 @@ other-8 : proveOf A₅ (0 ∷ 1 ∷ []) .0 ≡ refusal 8
 other-8 = answers-8 A₅ (0 ∷ 1 ∷ []) passes unsolved
   where
     passes : PassesAll A₅ (0 ∷ 1 ∷ [])
-    passes = unfold bares degree leadingZeros below codesOf codeOf within all in refl
+    passes = unfold bares degree leadingZeros below codesOf codeOf within all rankOf rank count after clearing pivot lowest isZero smallAt small word digits number F in refl
 
     differ : word first (small first 0) ≡ word first (small first 5) → ⊥
     differ e = unfold word small digits number F in omega (arith, e)

@@ -13,3 +13,4 @@ pub mod Equal
 pub mod Fields
 pub mod Tested
 pub mod Bits
+pub mod Sums

@@ -12,7 +12,7 @@ use Rattle.field.specs.Word.{digits}
 use Rattle.field.proofs.Number.{multiple, multiple-more, multiple-next, number-lt}
 
 -- all digits of y, or none
-masked : (e y : ℕ) → e < 2 → y < 2 ^ 16 → bitAnd y (e * 65535) ≡ e * y
+pub masked : (e y : ℕ) → e < 2 → y < 2 ^ 16 → bitAnd y (e * 65535) ≡ e * y
 masked zero y h l = ap (bitAnd y) (zero-mul 65535) ∙ and-zero-r y ∙ sym (zero-mul y)
 masked (suc zero) y h l = and-mask y 16 ∙ mod-eq-of-lt l ∙ sym (one-mul y)
 masked (suc (suc e)) y h l = absurd (omega arith)

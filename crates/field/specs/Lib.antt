@@ -1,4 +1,6 @@
 pub mod Ring
+pub mod Sums
+pub mod SumLaws
 pub mod RingLaws
 pub mod Vector
 pub mod VectorLaws

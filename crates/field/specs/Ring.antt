@@ -1,5 +1,5 @@
 -- Commutative rings in which x + x is zero, and the maps between them.
-use mathlib.Core.Path.{_≡_}
+use mathlib.Core.Path.{_≡_, refl}
 
 pub record Ring : Type 1 where
   pub Carrier : Type 0
@@ -22,3 +22,6 @@ pub record Hom (R S : Ring) : Type 0 where
   pub map-one : map (R .one) ≡ S .one
   pub map-add : (a b : R .Carrier) → map (R .add a b) ≡ S .add (map a) (map b)
   pub map-mul : (a b : R .Carrier) → map (R .mul a b) ≡ S .mul (map a) (map b)
+
+abbrev pub identity : (R : Ring) → Hom R R
+identity R = record { map = λ a. a; map-one = refl; map-add = λ a b. refl; map-mul = λ a b. refl }

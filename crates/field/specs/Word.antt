@@ -1,7 +1,7 @@
 -- Numbers and words as elements of F and K, and back.
 use mathlib.Core.Bool.{Bool, true, false, cond}
 use mathlib.Core.List.{List, [], _∷_}
-use Prim.Native.Nat.{ℕ, zero, suc, _+_, _*_, _/_, _%_}
+use Prim.Native.Nat.{ℕ, zero, suc, _+_, _*_, _/_, _%_, _^_, _<_}
 use lib.Dec.{leb, eqb}
 use lib.ListN.{getD}
 use Rattle.lists.specs.Words.{all}
@@ -41,6 +41,10 @@ unfoldable pub word : (l : Level) → F l .Carrier → ℕ
 unfolding F
 word l a = number (l .width) a
 
+-- element i of a slice of elements of F, "one word" each
+unfoldable pub smallAt : (l : Level) → List ℕ → ℕ → F l .Carrier
+smallAt l s i = small l (getD s i 0)
+
 -- "In lent slices one element is twelve 16-bit words, coordinate 0 first": words as an element of K, and the words of one
 unfoldable pub element : (l : Level) → List ℕ → K l .Carrier
 unfolding K
@@ -53,6 +57,10 @@ words l a = list (l .coordinates) (word l) a
 -- no word is above the level's limit
 unfoldable pub within : Level → List ℕ → Bool
 within l s = all (λ x. leb x (l .limit)) s
+
+-- every word has at most width bits
+abbrev pub Words : Level → List ℕ → Type 0
+Words l s = (k : ℕ) → getD s k 0 < 2 ^ l .width
 
 -- an element of K is zero: its words are
 unfoldable pub isZero : (l : Level) → K l .Carrier → Bool

@@ -9,7 +9,7 @@ ghost use Rattle.field.specs.Word.{digits, small, word};
 use crate::Level;
 
 // z times x, where z^width = z^tap + 1.
-fn times_z(x: u16, level: usize) -> u16
+pub fn times_z(x: u16, level: usize) -> u16
     ensures { λ r. ⌜ (x < 2 ^ levelAt level .width → (r < 2 ^ levelAt level .width) × (digits (levelAt level .width) r ≡ timesX binary (levelAt level .width) (levelAt level .tap) (digits (levelAt level .width) x))) ⌝ }
 {
     let l = Level::of(level);

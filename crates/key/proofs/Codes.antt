@@ -16,7 +16,7 @@ use Rattle.lists.proofs.Words.{all-more, all-from}
 use Rattle.field.proofs.Limit.{or-below}
 use Rattle.key.specs.declared.Code.{Code}
 use Rattle.key.specs.declared.Code.the-variants.{Column, Spare, TooLarge}
-use Rattle.key.specs.Key.{degree, below, codeOf, codeNumber, codeAt, codesOf, higher, isTooLarge, isSpare, contents, spareRow}
+use Rattle.key.specs.Key.{degree, below, codeOf, codeNumber, codeAt, codesOf, higher, isTooLarge, isSpare, material, spareRow}
 use Rattle.key.proofs.Sized.{degree-lt}
 use Rattle.key.proofs.Fine.{below-lt}
 
@@ -141,10 +141,9 @@ at-taken Column = refl
 at-taken Spare = refl
 at-taken TooLarge = refl
 
-pub taken : (key bits coordinates : Bool) (c : Code) → firstOf (contents key bits coordinates (spareTaken c) ++ spareRow (spareTaken c)) ≡ firstOf (contents key bits coordinates c)
-taken false bits coordinates c = refl
-taken true false coordinates c = refl
-taken true true false c = refl
-taken true true true Column = refl
-taken true true true Spare = refl
-taken true true true TooLarge = refl
+pub taken : (bits coordinates : Bool) (c : Code) → firstOf (material bits coordinates (spareTaken c) ++ spareRow (spareTaken c)) ≡ firstOf (material bits coordinates c)
+taken false coordinates c = refl
+taken true false c = refl
+taken true true Column = refl
+taken true true Spare = refl
+taken true true TooLarge = refl

@@ -2,3 +2,4 @@ pub mod Sized
 pub mod Codes
 pub mod Fine
 pub mod Checked
+pub mod Leans

@@ -2,6 +2,7 @@
 use mathlib.Core.Path.{_≡_, ap}
 use Prim.Native.Nat.{ℕ, _+_, _-_, _*_, _^_, _≤_, _<_}
 use native.Mathlib.Decide.{decLt}
+use native.Mathlib.Nat.{mul-le-mul}
 use native.Mathlib.Omega.{arith}
 use mathlib.Core.List.{[], _∷_}
 use borrow.Author.Tests.{le-ltb, lt-leb, ne-eqb, ltb-false, leb-false, eqb-false}
@@ -11,6 +12,8 @@ use Rattle.refusal.specs.Answer.{firstOf}
 use Rattle.refusal.specs.declared.Answer.the-variants.{Done}
 use Rattle.refusal.proofs.Answers.{None}
 use Rattle.field.specs.declared.Level.{Level}
+use Rattle.field.specs.Level.{FIRST, levelAt}
+use Rattle.field.proofs.Fields.{first-most}
 use Rattle.key.specs.declared.Key.{Key}
 use Rattle.key.specs.Key.{degree, sizes, Sized}
 
@@ -24,6 +27,10 @@ sized l key e = record {
 
 pub sizes-done : (l : Level) (key : Key) → Sized l key → firstOf (sizes l key) ≡ Done
 sizes-done l key s = λ t. firstOf ((le-ltb (key .n) 2 (s .two) t, 1) ∷ (le-ltb (l .most) (key .n) (s .most) t, 1) ∷ (ne-eqb (key .m) 0 (omega (arith, s .some)) t, 2) ∷ (lt-leb (key .n) (key .m) (s .fewer) t, 2) ∷ [])
+
+-- H fits the memory in which its rows are tested
+pub first-matrix : (key : Key) → Sized (levelAt FIRST) key → key .m * key .n ≤ 4032
+first-matrix key s = mul-le-mul {n₂ = 63} {m₂ = 64} (omega (arith, s .fewer, s .most, first-most)) (omega (arith, s .most, first-most))
 
 -- n - 1 has d digits
 digits : (n : ℕ) → n < 2 ^ 64 → (n - 1 < 2 ^ degree n) × (2 ^ degree n ≤ 2 * (n - 1) + 1)

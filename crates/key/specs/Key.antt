@@ -1,12 +1,17 @@
 -- The key: its sizes, d, when it is well formed, and what positions are.
+use mathlib.Core.Path.{_≡_}
+use mathlib.Core.Logic.{_↔_}
 use mathlib.Core.Bool.{Bool, true, false, not, cond, _&&_}
-use mathlib.Core.List.{List, [], _∷_}
+use mathlib.Core.List.{List, [], _∷_, _++_}
 use Prim.Native.Nat.{ℕ, zero, suc, _+_, _-_, _*_, _^_, _≤_, _<_}
 use lib.Count.{leadingZeros}
 use lib.Dec.{leb, ltb, eqb}
 use Rattle.field.specs.declared.Level.{Level}
 use Rattle.field.specs.Word.{within}
 use Rattle.lists.specs.Words.{all}
+use Rattle.refusal.specs.Answer.{firstOf}
+use Rattle.refusal.specs.declared.Answer.the-variants.{Done}
+use Rattle.elimination.specs.Rank.{short, Leaning}
 use Rattle.key.specs.declared.Key.{Key}
 use Rattle.key.specs.declared.Lengths.{Lengths}
 use Rattle.key.specs.declared.Code.{Code}
@@ -120,15 +125,28 @@ isTooLarge Column = false
 isTooLarge Spare = false
 isTooLarge TooLarge = true
 
--- places 'key' and 'material', a row for each number; of words and bytes whether they are in order, of positions what they are, Column where an
--- entry takes none: 4 "an element of H or x is above 2047", or of y, 5 "a byte of u or t is above 1", 6 "a coordinate of an element of K is above
--- 2047", 7 "a position is 2^d or more". "Constraints still takes spare codes": no row applies to them
-abbrev pub contents : (key bits coordinates : Bool) (positions : Code) → List (Bool × ℕ)
-contents key bits coordinates positions = (not key, 4) ∷ (not bits, 5) ∷ (not coordinates, 6) ∷ (isTooLarge positions, 7) ∷ []
+-- place 'key': 4 "an element of H or x is above 2047", or of y, then 15 "when some coefficients from F, not all zero, combine the rows of H to
+-- zero", told by the rank: "so a well-formed key now has rows that don't lean on each other"
+abbrev pub contents : Level → Key → KeySlices → List (Bool × ℕ)
+contents l key lent = (not (keyWithin l lent), 4) ∷ (short l (key .n) (key .m) (lent .h), 15) ∷ []
+
+-- place 'material', a row for each number; of words and bytes whether they are in order, of positions what they are, Column where an entry takes
+-- none: 5 "a byte of u or t is above 1", 6 "a coordinate of an element of K is above 2047", 7 "a position is 2^d or more". "Constraints still takes
+-- spare codes": no row applies to them
+abbrev pub material : (bits coordinates : Bool) (positions : Code) → List (Bool × ℕ)
+material bits coordinates positions = (not bits, 5) ∷ (not coordinates, 6) ∷ (isTooLarge positions, 7) ∷ []
 
 -- and place 'slices' before them: 3 "a lent slice isn't of its stated length"
-abbrev pub checks : (slices key bits coordinates : Bool) (positions : Code) → List (Bool × ℕ)
-checks slices key bits coordinates positions = (not slices, 3) ∷ contents key bits coordinates positions
+abbrev pub checks : (l : Level) (key : Key) (slices : Bool) (lent : KeySlices) (bits coordinates : Bool) (positions : Code) → List (Bool × ℕ)
+checks l key slices lent bits coordinates positions = (not slices, 3) ∷ (contents l key lent ++ material bits coordinates positions)
+
+-- refusals 1 to 4 of an entry that takes a key, in order
+abbrev pub rowsTo4 : (l : Level) (key : Key) (slices : Bool) (lent : KeySlices) → List (Bool × ℕ)
+rowsTo4 l key slices lent = sizes l key ++ ((not slices, 3) ∷ (not (keyWithin l lent), 4) ∷ [])
+
+-- past them an entry answers 15 exactly when the rows of H lean on each other. Each function says how its answer tells it.
+pub record Leans (l : Level) (key : Key) (slices : Bool) (lent : KeySlices) (IsFifteen : Type 0) : Type 0 where
+  pub fifteen : IsFifteen ↔ ((firstOf (rowsTo4 l key slices lent) ≡ Done) × Leaning l (key .n) (key .m) (lent .h))
 
 -- 16 "when prove is lent a spare code and none is too large, after 7"
 abbrev pub spareRow : (positions : Code) → List (Bool × ℕ)

@@ -3,9 +3,10 @@ ghost use mathlib.Core.Path.{_≡_};
 ghost use mathlib.Core.List.{_++_};
 ghost use Prim.Native.Nat.{_+_, _≤_, _<_};
 ghost use lib.Dec.{ltb, eqb};
+ghost use lib.ListN.{length};
 ghost use Rattle.refusal.specs.Answer.{firstOf};
 ghost use Rattle.field.specs.Level.{levelAt};
-ghost use Rattle.key.specs.Key.{degree, lengths, sizes, Sized, below, codesOf, codeNumber, codeAt, keySlices, keyWithin, contents, spareRow};
+ghost use Rattle.key.specs.Key.{degree, lengths, sizes, Sized, below, codesOf, codeNumber, codeAt, keySlices, keyWithin, contents, material, spareRow};
 use field::Level;
 use refusal::Answer;
 use refusal::Refusal;
@@ -97,6 +98,23 @@ impl Key {
         Answer::Done
     }
 
+    // The first of refusals 4 and 15 that applies to the key's slices. The rows of H are tested in memory of the first level's size.
+    pub fn contents(self, h: &[u16], x: &[u16], y: &[u16], level: usize) -> Answer
+        requires { ⌜ Sized (levelAt level) self × (length (now h) ≡ lengths (levelAt level) self .matrix) × (lengths (levelAt level) self .matrix ≤ 4032) ⌝ }
+        ensures { λ r. ⌜ r ≡ firstOf (contents (levelAt level) self (keySlices (now (h .entry)) (now (x .entry)) (now (y .entry)))) ⌝ }
+    {
+        let n = self.n;
+        let m = self.m;
+        if excess(h, x, y, level) != 0 {
+            return Answer::Refused(Refusal::KEY_ELEMENT);
+        }
+        if elimination::short(h, n, m, level) {
+            Answer::Refused(Refusal::DEPENDENT_ROWS)
+        } else {
+            Answer::Done
+        }
+    }
+
     // The number of the positions' case, the highest among theirs. The ninth digits of all are joined, so that no branch and no index depends
     // on a position.
     pub fn codes(self, positions: &[u8]) -> u8
@@ -161,20 +179,17 @@ pub fn over(s: &[u8], digits: usize) -> u8
 }
 
 // Zero exactly when no element of the key's slices is above the limit.
-pub fn excess(h: &[u16], x: &[u16], y: &[u16], level: usize) -> u16
+fn excess(h: &[u16], x: &[u16], y: &[u16], level: usize) -> u16
     ensures { λ r. ⌜ eqb r 0 ≡ keyWithin (levelAt level) (keySlices (now (h .entry)) (now (x .entry)) (now (y .entry))) ⌝ }
 {
     field::excess(h, level) | (field::excess(x, level) | field::excess(y, level))
 }
 
-// The first of refusals 4 to 7 and 16 that applies. Of 4 to 6 each is told by a number that is zero where it does not, 7 and 16 by the number of
+// The first of refusals 5 to 7 and 16 that applies. Each of 5 and 6 is told by a number that is zero where it does not, 7 and 16 by the number of
 // the positions' case, which decides nothing where one of these applies.
-pub fn contents(elements: u16, bits: u8, coordinates: u16, positions: u8) -> Answer
-    ensures { λ r. ⌜ r ≡ firstOf (contents (eqb elements 0) (eqb bits 0) (eqb coordinates 0) (codeAt positions) ++ spareRow (codeAt positions)) ⌝ }
+pub fn material(bits: u8, coordinates: u16, positions: u8) -> Answer
+    ensures { λ r. ⌜ r ≡ firstOf (material (eqb bits 0) (eqb coordinates 0) (codeAt positions) ++ spareRow (codeAt positions)) ⌝ }
 {
-    if elements != 0 {
-        return Answer::Refused(Refusal::KEY_ELEMENT);
-    }
     if bits != 0 {
         return Answer::Refused(Refusal::BIT);
     }

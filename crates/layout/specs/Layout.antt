@@ -5,8 +5,10 @@ use mathlib.Core.List.{List, [], _∷_, _++_}
 use Prim.Native.Nat.{ℕ, _+_, _*_}
 use lib.Dec.{eqb}
 use lib.ListN.{getD}
-use Rattle.copying.specs.Words.{word}
+use Rattle.lists.specs.Words.{part}
+use Rattle.copying.specs.Words.{word, words}
 use Rattle.field.specs.declared.Level.{Level}
+use Rattle.elimination.specs.Rank.{short}
 use Rattle.key.specs.declared.Key.{Key}
 use Rattle.key.specs.Key.{lengths}
 use Rattle.layout.specs.declared.Row.{Row}
@@ -64,8 +66,17 @@ module _ (l : Level) (s : List ℕ) where
   abbrev pub keyEnd : ℕ
   keyEnd = after 0 keySegment
 
+  -- the elements of H: the content of field 02, which comes second
+  abbrev pub matrixOf : List ℕ
+  matrixOf = words (part 8 (2 * lengths l (keyOf s) .matrix) s)
+
+  -- the test of 15: "some coefficients from F, not all zero, combine the rows of H to zero", told by the rank
+  abbrev pub leans : Bool
+  leans = short l (keyOf s .n) (keyOf s .m) matrixOf
+
+  -- 15 "in a reader, after all checks of field 03 or, where the next byte is 04, of field 04"
   abbrev pub keyTests : List (Bool × ℕ)
-  keyTests = tests l s 0 keySegment
+  keyTests = tests l s 0 keySegment ++ (leans, 15) ∷ []
 
   abbrev pub groupSegment : List Row
   groupSegment = groupRows l (keyOf s) s keyEnd

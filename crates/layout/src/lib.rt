@@ -5,6 +5,7 @@ ghost use Prim.Native.Nat.{_+_, _-_, _≤_, _<_};
 ghost use lib.Dec.{eqb};
 ghost use lib.ListN.{length, getD};
 ghost use Rattle.refusal.specs.Answer.{firstOf};
+ghost use Rattle.refusal.specs.declared.Answer.the-variants.{Done};
 ghost use Rattle.copying.specs.Words.{word, words};
 ghost use Rattle.field.specs.declared.Level.{Level};
 ghost use Rattle.field.specs.Level.{FIRST, levelAt};
@@ -12,8 +13,8 @@ ghost use Rattle.field.specs.Word.{within};
 ghost use Rattle.key.specs.Key.{Sized};
 ghost use Rattle.layout.specs.declared.Row.{Row};
 ghost use Rattle.layout.specs.declared.Kind.the-variants.{Target};
-ghost use Rattle.layout.specs.Layout.{serialLength, optional, groupRows, checkRows, keyTests, keyEnd};
-ghost use Rattle.layout.specs.Tests.{keyAt, zeros, longSerial, valueTests, rowTests, endTests, partOf};
+ghost use Rattle.layout.specs.Layout.{serialLength, optional, keySegment, groupRows, checkRows, leans, keyTests, keyEnd};
+ghost use Rattle.layout.specs.Tests.{keyAt, zeros, longSerial, valueTests, rowTests, tests, endTests, partOf};
 ghost use Rattle.layout.specs.Steps.{Whole, stepped, outcome, further};
 use field::FIRST;
 use field::Level;
@@ -70,6 +71,12 @@ impl Row {
 
 // The bytes of tag and length.
 pub const HEAD: usize = 3;
+
+// Where the content of field 02 stands in a file: after field 01 and the head.
+const H_START: usize = 8;
+
+// The largest m n.
+const MATRIX: usize = 4032;
 
 // Where a content stands in the bytes lent.
 pub struct Part {
@@ -263,9 +270,9 @@ fn read_optional(s: &[u8], step: Step, row: Row) -> Step
     }
 }
 
-// The key's fields, which come first: where they end, or the refusal.
-pub fn read_key(s: &[u8]) -> Step
-    ensures { λ r. ⌜ r ≡ stepped (firstOf (keyTests (levelAt FIRST) (now (s .entry)))) (keyEnd (levelAt FIRST) (now (s .entry))) ⌝ }
+// The key's fields, which come first: where they end, or the refusal of one of them.
+fn read_key_fields(s: &[u8]) -> Step
+    ensures { λ r. ⌜ r ≡ outcome (levelAt FIRST) (now (s .entry)) 0 (keySegment (levelAt FIRST) (now (s .entry))) ⌝ }
 {
     let sizes = read_row(s, Step::Next(0), Row::SIZES);
     if let Step::Refused(_) = sizes {
@@ -289,6 +296,37 @@ pub fn read_key(s: &[u8]) -> Step
     };
     let step = read_row(s, read_row(s, sizes, h), x);
     read_optional(s, step, y)
+}
+
+// Whether the rows of H lean on each other, past the tests of the key's fields: by elimination on a copy of its elements.
+fn rows_lean(s: &[u8]) -> bool
+    requires { ⌜ firstOf (tests (levelAt FIRST) (now s) 0 (keySegment (levelAt FIRST) (now s))) ≡ Done ⌝ }
+    ensures { λ r. ⌜ r ≡ leans (levelAt FIRST) (now (s .entry)) ⌝ }
+{
+    let key = key_at(s, HEAD);
+    let n = key.n;
+    let m = key.m;
+    let end = H_START + 2 * key.lengths(FIRST).matrix;
+    let mut matrix = [0u16; MATRIX];
+    let len = copying::words_into(&s[H_START..end], &mut matrix);
+    elimination::eliminate(&mut matrix[..len], n, m, FIRST) < m
+}
+
+// The key's fields and then the rows of H: where the fields end, or the refusal.
+pub fn read_key(s: &[u8]) -> Step
+    ensures { λ r. ⌜ r ≡ stepped (firstOf (keyTests (levelAt FIRST) (now (s .entry)))) (keyEnd (levelAt FIRST) (now (s .entry))) ⌝ }
+{
+    let step = read_key_fields(s);
+    match step {
+        Step::Refused(refusal) => Step::Refused(refusal),
+        Step::Next(end) => {
+            if rows_lean(s) {
+                Step::Refused(Refusal::DEPENDENT_ROWS)
+            } else {
+                Step::Next(end)
+            }
+        }
+    }
 }
 
 // The length that a serial at a position is judged against: 4 where 4 is stated, else 2.

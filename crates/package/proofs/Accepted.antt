@@ -1,5 +1,5 @@
 -- What bytes that a reader accepts have: sizes, and rows that end with them.
-use mathlib.Core.Path.{_≡_, refl, sym, ap, subst, _∙_}
+use mathlib.Core.Path.{_≡_, refl, sym, ap, _∙_}
 use mathlib.Core.Bool.{Bool, true, false, cond}
 use mathlib.Core.List.{List, [], _∷_, _++_}
 use Prim.Native.Nat.{ℕ, _+_, _≤_, _<_}
@@ -13,17 +13,17 @@ use Rattle.copying.proofs.Bytes.{from-lt, bytes-part}
 use Rattle.refusal.specs.Answer.{firstOf}
 use Rattle.refusal.specs.declared.Answer.{Answer}
 use Rattle.refusal.specs.declared.Answer.the-variants.{Done, Refused}
-use Rattle.refusal.proofs.Answers.{None, none, pass, after-done}
+use Rattle.refusal.proofs.Answers.{None, none}
 use Rattle.field.specs.declared.Level.{Level}
 use Rattle.key.specs.Key.{Sized}
 use Rattle.layout.specs.declared.Row.{Row}
-use Rattle.layout.specs.Layout.{serialLength, optional, firstRows, targetRow, keySegment, keyEnd, groupSegment, checkSegment, packageRows, packageTests, checkFileRows, checkFileTests}
+use Rattle.layout.specs.Layout.{serialLength, optional, firstRows, targetRow, keySegment, keyEnd, groupSegment, checkSegment, leans, packageRows, packageTests, checkFileRows, checkFileTests}
 use Rattle.layout.specs.Tests.{keyOf, tests, after, endTests, partOf}
 use Rattle.layout.specs.Steps.{Whole}
 use Rattle.package.specs.declared.Contents.{Contents}
 use Rattle.package.specs.declared.Read.the-variants.{Fields}
 use Rattle.package.specs.Reading.{Reader, readAs, serialOf, contentsOf, reading}
-use Rattle.layout.proofs.Rows.{none-append, none-done, head-passed}
+use Rattle.layout.proofs.Rows.{none-append, none-join, none-done, head-passed}
 use Rattle.layout.proofs.Files.{first-sized, package-tests, check-file-tests}
 
 -- fields that are not refused end within the bytes
@@ -34,7 +34,7 @@ after-within l s at (row ∷ rows) h e =
     let w = head-passed l s at row rows e in
     after-within l s (at + 3 + row .len) rows (w .0 .fits) (w .1)
 
-pub whole : (l : Level) (s : List ℕ) (rows : List Row) → None (tests l s 0 rows ++ endTests s (after 0 rows)) → Whole l s rows
+whole : (l : Level) (s : List ℕ) (rows : List Row) → None (tests l s 0 rows ++ endTests s (after 0 rows)) → Whole l s rows
 whole l s rows e =
     let both = none-append (tests l s 0 rows) (endTests s (after 0 rows)) e in
     record {
@@ -42,21 +42,28 @@ whole l s rows e =
       ends = omega (arith, after-within l s 0 rows (omega arith) (both .0), ltb-false (after 0 rows) (length s) (both .1 .0));
     }
 
-pub passes : (l : Level) (s : List ℕ) (rows : List Row) → Whole l s rows → firstOf (tests l s 0 rows ++ endTests s (after 0 rows)) ≡ Done
-passes l s rows w = after-done (tests l s 0 rows) (endTests s (after 0 rows)) (w .accepted) ∙ pass 12 [] (le-ltb (after 0 rows) (length s) (omega (arith, w .ends)))
+passes : (l : Level) (s : List ℕ) (rows : List Row) → Whole l s rows → None (tests l s 0 rows ++ endTests s (after 0 rows))
+passes l s rows w = none-join (tests l s 0 rows) (endTests s (after 0 rows)) (none (tests l s 0 rows) (w .accepted)) (le-ltb (after 0 rows) (length s) (omega (arith, w .ends)), tt)
 
 module _ (l : Level) (s : List ℕ) where
   pub package-whole : firstOf (packageTests l s) ≡ Done → Whole l s (packageRows l s)
-  package-whole e = whole l s (packageRows l s) (subst None (package-tests l s) (none (packageTests l s) e))
+  package-whole e = whole l s (packageRows l s) (package-tests l s .0 (none (packageTests l s) e) .0)
 
   pub check-file-whole : firstOf (checkFileTests l s) ≡ Done → Whole l s (checkFileRows l s)
-  check-file-whole e = whole l s (checkFileRows l s) (subst None (check-file-tests l s) (none (checkFileTests l s) e))
+  check-file-whole e = whole l s (checkFileRows l s) (check-file-tests l s .0 (none (checkFileTests l s) e) .0)
 
-  pub package-passes : Whole l s (packageRows l s) → firstOf (packageTests l s) ≡ Done
-  package-passes w = ap firstOf (package-tests l s) ∙ passes l s (packageRows l s) w
+  -- the rows of H do not lean on each other
+  pub package-stands : firstOf (packageTests l s) ≡ Done → leans l s ≡ false
+  package-stands e = package-tests l s .0 (none (packageTests l s) e) .1
 
-  pub check-file-passes : Whole l s (checkFileRows l s) → firstOf (checkFileTests l s) ≡ Done
-  check-file-passes w = ap firstOf (check-file-tests l s) ∙ passes l s (checkFileRows l s) w
+  pub check-file-stands : firstOf (checkFileTests l s) ≡ Done → leans l s ≡ false
+  check-file-stands e = check-file-tests l s .0 (none (checkFileTests l s) e) .1
+
+  pub package-passes : Whole l s (packageRows l s) → leans l s ≡ false → firstOf (packageTests l s) ≡ Done
+  package-passes w r = none-done (packageTests l s) (package-tests l s .1 (passes l s (packageRows l s) w, r))
+
+  pub check-file-passes : Whole l s (checkFileRows l s) → leans l s ≡ false → firstOf (checkFileTests l s) ≡ Done
+  check-file-passes w r = none-done (checkFileTests l s) (check-file-tests l s .1 (passes l s (checkFileRows l s) w, r))
 
   -- field 01 comes first
   pub package-sized : firstOf (packageTests l s) ≡ Done → Sized l (keyOf s)

@@ -5,9 +5,14 @@ use Prim.Native.Nat.{ℕ}
 use lib.Count.{leadingZeros}
 use lib.ListN.{replicate, take, drop, set}
 use Rattle.lists.specs.Words.{all}
-use Rattle.copying.specs.Words.{words, fromBytesAfter}
-use Rattle.field.specs.Level.{FIRST, levelAt}
-use Rattle.field.specs.Word.{within}
+use Rattle.copying.specs.Words.{words, fromBytesAfter, wordBytes}
+use Rattle.lists.specs.Count.{count}
+use Rattle.field.specs.Vector.{zeros as 𝟘s, unit, sum, scale, push, top}
+use Rattle.field.specs.Quotient.{rule, timesX, horner, times}
+use Rattle.field.specs.Level.{FIRST, levelAt, F}
+use Rattle.field.specs.Word.{digits, number, small, word, smallAt, within}
+use Rattle.elimination.specs.Elimination.{lowest, pivot, column, after as cleared, rank}
+use Rattle.elimination.specs.Rank.{isZero, rankOf}
 use Rattle.key.specs.Key.{degree, below}
 use Rattle.layout.specs.Layout.{packageRows, checkFileRows}
 use Rattle.layout.specs.Tests.{rowTests, tests, after, partOf}
@@ -59,7 +64,7 @@ files =
     ∷ []
 
 pub examples : map (λ f. readCheck (f .0)) files ≡ map (λ f. f .1) files
-unfolding files levelAt degree leadingZeros checkFileRows packageRows tests rowTests after partOf words fromBytesAfter within below all
+unfolding files levelAt degree leadingZeros checkFileRows packageRows tests rowTests after partOf words fromBytesAfter within below all rankOf rank cleared column pivot lowest count isZero smallAt small word digits number F times horner timesX rule 𝟘s unit sum scale push top
 examples = refl
 
 -- the length and the content of the serial, and what reading the file as a check file answers
@@ -78,7 +83,7 @@ serials =
     ∷ []
 
 pub serial-examples : map (λ f. readCheck (withSerial (f .0))) serials ≡ map (λ f. f .1) serials
-unfolding serials levelAt degree leadingZeros checkFileRows packageRows tests rowTests after partOf words fromBytesAfter within below all
+unfolding serials levelAt degree leadingZeros checkFileRows packageRows tests rowTests after partOf words fromBytesAfter within below all rankOf rank cleared column pivot lowest count isZero smallAt small word digits number F times horner timesX rule 𝟘s unit sum scale push top
 serial-examples = refl
 
 -- these bytes in the file of key A after field 03, and after field 05
@@ -112,14 +117,20 @@ targets =
     ∷ []
 
 pub target-examples : map (λ f. readCheck (f .0)) targets ≡ map (λ f. f .1) targets
-unfolding targets levelAt degree leadingZeros checkFileRows packageRows tests rowTests after partOf words fromBytesAfter within below all
+unfolding targets levelAt degree leadingZeros checkFileRows packageRows tests rowTests after partOf words fromBytesAfter within below all rankOf rank cleared column pivot lowest count isZero smallAt small word digits number F times horner timesX rule 𝟘s unit sum scale push top
 target-examples = refl
 
--- a package with n = 3 and m = 2, all zero but for y, which has these bytes
+-- the first three fields with n = 3 and m = 2, x zero, and these six elements of H
+abbrev keyWith : List ℕ → List ℕ
+keyWith h = (0x01 ∷ 0 ∷ 2 ∷ 3 ∷ 2 ∷ 0x02 ∷ 0 ∷ 12 ∷ wordBytes h) ++ (0x03 ∷ 0 ∷ 6 ∷ replicate 6 0)
+
+-- a group for them, all zero but for the serial
+abbrev group : List ℕ
+group = (0x05 ∷ 0 ∷ 2 ∷ 0 ∷ 7 ∷ 0x06 ∷ 0 ∷ 6 ∷ replicate 6 0) ++ (0x07 ∷ 0 ∷ 48 ∷ replicate 48 0)
+
+-- a package with rows (0, 1, 0) and (1, 0, 0) of H, and with these bytes for y
 abbrev withTarget : List ℕ → List ℕ
-withTarget y =
-    (0x01 ∷ 0 ∷ 2 ∷ 3 ∷ 2 ∷ 0x02 ∷ 0 ∷ 12 ∷ replicate 12 0) ++ (0x03 ∷ 0 ∷ 6 ∷ replicate 6 0) ++ (0x04 ∷ 0 ∷ 4 ∷ y)
-    ++ (0x05 ∷ 0 ∷ 2 ∷ 0 ∷ 7 ∷ 0x06 ∷ 0 ∷ 6 ∷ replicate 6 0) ++ (0x07 ∷ 0 ∷ 48 ∷ replicate 48 0)
+withTarget y = keyWith (0 ∷ 1 ∷ 0 ∷ 1 ∷ 0 ∷ 0 ∷ []) ++ (0x04 ∷ 0 ∷ 4 ∷ y) ++ group
 
 -- the elements of y in it, and what reading it answers: 14 where all are zero, after 4
 pub elements : List (List ℕ × Read)
@@ -131,16 +142,38 @@ elements =
     ∷ []
 
 pub element-examples : map (λ f. readPackage (withTarget (f .0))) elements ≡ map (λ f. f .1) elements
-unfolding elements levelAt degree leadingZeros packageRows tests rowTests after partOf words fromBytesAfter within below all
+unfolding elements wordBytes levelAt degree leadingZeros packageRows tests rowTests after partOf words fromBytesAfter within below all rankOf rank cleared column pivot lowest count isZero smallAt small word digits number F times horner timesX rule 𝟘s unit sum scale push top
 element-examples = refl
+
+-- what follows field 03 of a key with zeros for H, and what reading the bytes answers: 15 after all checks of field 04 where the next byte is
+-- 04, and otherwise before all others
+pub leanings : List (List ℕ × Read)
+leanings =
+    ([], refused 15)
+    ∷ (0x05 ∷ [], refused 15)
+    ∷ (0x03 ∷ [], refused 15)
+    ∷ (group, refused 15)
+    ∷ (group ++ 0 ∷ [], refused 15)
+    ∷ (0x04 ∷ [], refused 9)
+    ∷ (0x04 ∷ 0 ∷ 2 ∷ 0 ∷ 1 ∷ [], refused 11)
+    ∷ (0x04 ∷ 0 ∷ 4 ∷ 0 ∷ 1 ∷ 0 ∷ [], refused 9)
+    ∷ (0x04 ∷ 0 ∷ 4 ∷ 0 ∷ 1 ∷ 8 ∷ 0 ∷ [], refused 4)
+    ∷ (0x04 ∷ 0 ∷ 4 ∷ 0 ∷ 0 ∷ 0 ∷ 0 ∷ [], refused 14)
+    ∷ (0x04 ∷ 0 ∷ 4 ∷ 0 ∷ 1 ∷ 0 ∷ 0 ∷ [], refused 15)
+    ∷ (0x04 ∷ 0 ∷ 4 ∷ 0 ∷ 1 ∷ 0 ∷ 0 ∷ group, refused 15)
+    ∷ []
+
+pub leaning-examples : map (λ f. readPackage (keyWith (replicate 6 0) ++ f .0)) leanings ≡ map (λ f. f .1) leanings
+unfolding leanings wordBytes levelAt degree leadingZeros packageRows tests rowTests after partOf words fromBytesAfter within below all rankOf rank cleared column pivot lowest count isZero smallAt small word digits number F times horner timesX rule 𝟘s unit sum scale push top
+leaning-examples = refl
 
 -- where field 04 stands, in that package and in the one of key A, which has none
 pub target-parts : fieldPart (packageReader (levelAt FIRST)) (withTarget (0 ∷ 0 ∷ 1 ∷ 0 ∷ [])) 0x04 ∷ fieldPart (packageReader (levelAt FIRST)) (take 56 keyA) 0x04 ∷ []
     ≡ record { start = 32; len = 4 } ∷ record { start = 0; len = 0 } ∷ []
-unfolding levelAt degree leadingZeros packageRows tests rowTests after partOf words fromBytesAfter within below all
+unfolding wordBytes levelAt degree leadingZeros packageRows tests rowTests after partOf words fromBytesAfter within below all rankOf rank cleared column pivot lowest count isZero smallAt small word digits number F times horner timesX rule 𝟘s unit sum scale push top
 target-parts = refl
 
 -- its package, and the whole file given to the reader of packages
 pub packages : readPackage (take 56 keyA) ∷ readPackage keyA ∷ [] ≡ Fields (record { n = 2; m = 1; serial = 7 }) ∷ refused 12 ∷ []
-unfolding levelAt degree leadingZeros packageRows tests rowTests after partOf words fromBytesAfter within below all
+unfolding levelAt degree leadingZeros packageRows tests rowTests after partOf words fromBytesAfter within below all rankOf rank cleared column pivot lowest count isZero smallAt small word digits number F times horner timesX rule 𝟘s unit sum scale push top
 packages = refl

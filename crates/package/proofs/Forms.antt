@@ -9,23 +9,24 @@ use lib.ListN.{length, drop}
 use Rattle.copying.specs.Words.{Bytes, word, words, fromBytes}
 use Rattle.copying.proofs.Bytes.{words-bytes, words-length, bytes-words}
 use Rattle.field.specs.Level.{FIRST, levelAt}
+use Rattle.elimination.specs.Rank.{short}
 use Rattle.key.specs.declared.Key.{Key}
 use Rattle.key.specs.Key.{Sized}
 use Rattle.key.proofs.Fine.{below-lt}
 use Rattle.layout.specs.declared.Row.{Row}
 use Rattle.layout.specs.declared.Kind.the-variants.{Serial, Coordinates}
-use Rattle.layout.specs.Layout.{serialLength, groupRows, checkRows, packageRows, checkFileRows}
+use Rattle.layout.specs.Layout.{serialLength, groupRows, checkRows, leans, packageRows, checkFileRows}
 use Rattle.layout.specs.Tests.{keyAt, keyOf, after}
 use Rattle.layout.proofs.Files.{package-end}
 use Rattle.layout.proofs.Bounds.{bounds}
-use Rattle.package.specs.Written.{joined, contentOf, serialBytes, targetFields, KeyData, Group, Check, keyFields, groupFields, checkFields, ValidKey, ValidGroup, ValidCheck, packageForm, checkForm, Faithful}
-use Rattle.package.proofs.Accepted.{serial-most, part-lt, package-whole, package-passes, check-file-whole, check-file-passes}
+use Rattle.package.specs.Written.{joined, contentOf, serialBytes, targetFields, KeyData, Group, Check, keyFields, groupFields, checkFields, ValidGroup, ValidCheck, packageForm, checkForm, written, Faithful}
+use Rattle.package.proofs.Accepted.{serial-most, part-lt, package-whole, package-stands, package-passes, check-file-whole, check-file-stands, check-file-passes}
 use Rattle.package.proofs.Joined.{Fits, AllBytes, cut, same, content-bytes, next-len, cut-fits}
 use Rattle.package.proofs.Serial.{from-serial, serial-short, serial-bytes, serial-judged, serial-passes, serial-of}
 use Rattle.package.proofs.Words.{fit-words, test-coordinates, within-bytes}
 use Rattle.package.proofs.Segments.{Any, SegmentLaws, OpeningLaws, followed}
 use Rattle.package.proofs.Target.{NotTarget, past-target}
-use Rattle.package.proofs.Opening.{keyRowsAt, keyTable, key-laws}
+use Rattle.package.proofs.Opening.{keyRowsAt, keyTable, KeyPasses, key-laws, key-leans, valid-passes, valid-stands, stands-valid}
 use Rattle.package.proofs.Faithful.{FormLaws, faithful}
 
 -- the fields of a group, whose first row its own bytes tell
@@ -207,24 +208,29 @@ packageTable p = keyTable (p .0) ++ groupTable (p .0 .sizes) (p .1)
 abbrev packageRowsAt : List ℕ → ℕ → List Row
 packageRowsAt s at = keyRowsAt s at ++ groupRows (levelAt FIRST) (keyAt s (at + 3)) s (after at (keyRowsAt s at))
 
-package-opening : let form = packageForm (levelAt FIRST) in OpeningLaws (levelAt FIRST) (form .fields) (form .Limits) packageTable packageRowsAt Any (form .key)
+abbrev PackagePasses : KeyData × Group → Type 0
+PackagePasses p = KeyPasses (p .0) × ValidGroup (levelAt FIRST) (p .0 .sizes) (p .1)
+
+package-opening : let form = packageForm (levelAt FIRST) in OpeningLaws (levelAt FIRST) (form .fields) PackagePasses packageTable packageRowsAt Any (form .key)
 package-opening =
-    followed (levelAt FIRST) keyFields (ValidKey (levelAt FIRST)) keyTable keyRowsAt NotTarget (λ k. k .sizes)
+    followed (levelAt FIRST) keyFields KeyPasses keyTable keyRowsAt NotTarget (λ k. k .sizes)
     groupFields (ValidGroup (levelAt FIRST)) groupTable (groupRows (levelAt FIRST)) Any key-laws group-laws (λ key g v rest m. group-next g rest) tt
 
-package-laws : FormLaws (levelAt FIRST) (packageForm (levelAt FIRST)) packageTable packageRowsAt Any
+package-laws : FormLaws (levelAt FIRST) (packageForm (levelAt FIRST)) PackagePasses packageTable packageRowsAt Any
 unfolding packageRows contentOf
 package-laws = record {
   opening = package-opening;
+  passing = λ p v. (valid-passes (p .0) (v .0), v .1);
   serial = λ p. past-target 0x05 refl (p .0 .slices .y) (groupFields (p .1));
   last = tt;
   told = λ s. refl;
   whole = package-whole (levelAt FIRST);
-  passes = λ p v w. package-passes (levelAt FIRST) _ w;
+  passes = λ p v w. package-passes (levelAt FIRST) _ w (key-leans (p .0) (valid-passes (p .0) (v .0)) (groupFields (p .1)) ∙ valid-stands (p .0) (v .0));
+  limits = λ p v e. (stands-valid (p .0) (v .0) (sym (key-leans (p .0) (v .0) (groupFields (p .1))) ∙ package-stands (levelAt FIRST) _ e), v .1);
 }
 
 pub package-faithful : Faithful (packageForm (levelAt FIRST))
-package-faithful = faithful (levelAt FIRST) (packageForm (levelAt FIRST)) packageTable packageRowsAt Any package-laws
+package-faithful = faithful (levelAt FIRST) (packageForm (levelAt FIRST)) PackagePasses packageTable packageRowsAt Any package-laws
 
 -- a check file: a package, then the check
 abbrev checkFileTable : (KeyData × Group) × Check → List Row
@@ -233,22 +239,33 @@ checkFileTable x = packageTable (x .0) ++ checkTable (x .0 .0 .sizes) (x .1)
 abbrev checkFileRowsAt : List ℕ → ℕ → List Row
 checkFileRowsAt s at = packageRowsAt s at ++ checkRows (levelAt FIRST) (keyAt s (at + 3)) s (after at (packageRowsAt s at))
 
-check-file-opening : let form = checkForm (levelAt FIRST) in OpeningLaws (levelAt FIRST) (form .fields) (form .Limits) checkFileTable checkFileRowsAt Any (form .key)
+abbrev CheckFilePasses : (KeyData × Group) × Check → Type 0
+CheckFilePasses x = PackagePasses (x .0) × ValidCheck (levelAt FIRST) (x .0 .0 .sizes) (x .1)
+
+-- 15 is told by the key here too
+check-file-leans : (x : (KeyData × Group) × Check) → KeyPasses (x .0 .0) → leans (levelAt FIRST) (written (checkForm (levelAt FIRST)) x) ≡ short (levelAt FIRST) (x .0 .0 .sizes .n) (x .0 .0 .sizes .m) (x .0 .0 .slices .h)
+check-file-leans x v =
+    ap (λ f. leans (levelAt FIRST) (joined f)) (append-assoc (keyFields (x .0 .0)) (groupFields (x .0 .1)) (checkFields (x .1)))
+    ∙ key-leans (x .0 .0) v (groupFields (x .0 .1) ++ checkFields (x .1))
+
+check-file-opening : let form = checkForm (levelAt FIRST) in OpeningLaws (levelAt FIRST) (form .fields) CheckFilePasses checkFileTable checkFileRowsAt Any (form .key)
 check-file-opening =
     let form = packageForm (levelAt FIRST) in
-    followed (levelAt FIRST) (form .fields) (form .Limits) packageTable packageRowsAt Any (form .key)
+    followed (levelAt FIRST) (form .fields) PackagePasses packageTable packageRowsAt Any (form .key)
     checkFields (ValidCheck (levelAt FIRST)) checkTable (checkRows (levelAt FIRST)) Any package-opening check-laws (λ key c v rest m. tt) tt
 
-check-file-laws : FormLaws (levelAt FIRST) (checkForm (levelAt FIRST)) checkFileTable checkFileRowsAt Any
+check-file-laws : FormLaws (levelAt FIRST) (checkForm (levelAt FIRST)) CheckFilePasses checkFileTable checkFileRowsAt Any
 unfolding packageRows checkFileRows contentOf
 check-file-laws = record {
   opening = check-file-opening;
+  passing = λ x v. ((valid-passes (x .0 .0) (v .0 .0), v .0 .1), v .1);
   serial = λ x. let y = x .0 .0 .slices .y in ap (contentOf 0x05) (append-assoc (targetFields y) (groupFields (x .0 .1)) (checkFields (x .1))) ∙ past-target 0x05 refl y (groupFields (x .0 .1) ++ checkFields (x .1));
   last = tt;
   told = λ s. ap (λ at. packageRows (levelAt FIRST) s ++ checkRows (levelAt FIRST) (keyOf s) s at) (sym (package-end (levelAt FIRST) s));
   whole = check-file-whole (levelAt FIRST);
-  passes = λ x v w. check-file-passes (levelAt FIRST) _ w;
+  passes = λ x v w. check-file-passes (levelAt FIRST) _ w (check-file-leans x (valid-passes (x .0 .0) (v .0 .0)) ∙ valid-stands (x .0 .0) (v .0 .0));
+  limits = λ x v e. ((stands-valid (x .0 .0) (v .0 .0) (sym (check-file-leans x (v .0 .0)) ∙ check-file-stands (levelAt FIRST) _ e), v .0 .1), v .1);
 }
 
 pub check-file-faithful : Faithful (checkForm (levelAt FIRST))
-check-file-faithful = faithful (levelAt FIRST) (checkForm (levelAt FIRST)) checkFileTable checkFileRowsAt Any check-file-laws
+check-file-faithful = faithful (levelAt FIRST) (checkForm (levelAt FIRST)) CheckFilePasses checkFileTable checkFileRowsAt Any check-file-laws

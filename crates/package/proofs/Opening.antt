@@ -1,32 +1,35 @@
 -- The laws of the key's fields, at any position: the first three, and y, which may be absent.
 use mathlib.Core.Path.{_≡_, refl, sym, ap, ap₂, _∙_, subst}
-use mathlib.Core.List.{List, [], _∷_, _++_}
-use Prim.Native.Nat.{ℕ, zero, suc, _+_}
+use mathlib.Core.Bool.{Bool, true, false, true≢false}
+use mathlib.Core.List.{List, [], _∷_, _++_, append-assoc}
+use Prim.Native.Nat.{ℕ, zero, suc, _+_, _*_}
 use native.Mathlib.Nat.{add-assoc}
 use native.Mathlib.Omega.{arith}
 use borrow.Author.Tests.{lt-leb, le-ltb, ne-eqb, not-false}
-use lib.ListN.{length}
-use lib.Seq.{getD-append-add}
+use lib.ListN.{length, take}
+use lib.Seq.{getD-append-add, take-at}
 use Rattle.lists.specs.Words.{part}
 use Rattle.copying.specs.Words.{Bytes, words, wordBytes}
-use Rattle.copying.proofs.Bytes.{words-bytes, words-length, bytes-words}
+use Rattle.copying.proofs.Bytes.{words-bytes, words-length, bytes-length, bytes-words}
 use Rattle.refusal.proofs.Answers.{None}
 use Rattle.field.specs.declared.Level.{Level}
 use Rattle.field.specs.Level.{FIRST, levelAt}
+use Rattle.elimination.specs.Rank.{short, Leaning}
 use Rattle.key.specs.declared.Key.{Key}
 use Rattle.key.specs.Key.{keySlices, Sized, sizes, lengths}
 use Rattle.key.proofs.Sized.{sized}
 use Rattle.layout.specs.declared.Row.{Row}
 use Rattle.layout.specs.declared.Kind.the-variants.{Elements}
-use Rattle.layout.specs.Layout.{optional, firstRows, targetRow, keyRows}
+use Rattle.layout.specs.Layout.{optional, firstRows, targetRow, keyRows, matrixOf, leans}
 use Rattle.layout.specs.Tests.{keyAt}
 use Rattle.layout.proofs.Files.{key-part}
 use Rattle.layout.proofs.Bounds.{bounds}
 use Rattle.package.specs.Written.{joined, contentOf, targetFields, KeyData, keyFields, Within, ValidKey}
-use Rattle.package.proofs.Joined.{Fits, AllBytes, cut, same, content-bytes, cut-fits}
+use Rattle.package.proofs.Joined.{Fits, AllBytes, cut, same, content-bytes, joined-append, cut-fits}
 use Rattle.package.proofs.Words.{fit-words, test-elements, within-bytes}
 use Rattle.package.proofs.Target.{NotTarget, targetTable, target-laws}
 use Rattle.package.proofs.Segments.{Any, OpeningLaws, followed}
+use Rattle.elimination.proofs.Leaning.{leaning}
 
 -- sizes that are not refused
 none-sizes : (l : Level) (key : Key) → Sized l key → None (sizes l key)
@@ -38,15 +41,15 @@ sizes-bytes key s (suc zero) = omega (arith, bounds key s .vector, s .fewer)
 sizes-bytes key s (suc (suc i)) = omega arith
 
 -- the first three fields, and when they are within the limits
-record First : Type 0 where
-  sizes : Key
-  h : List ℕ
-  x : List ℕ
+pub record First : Type 0 where
+  pub sizes : Key
+  pub h : List ℕ
+  pub x : List ℕ
 
-record ValidFirst (k : First) : Type 0 where
-  sized : Sized (levelAt FIRST) (k .sizes)
-  h : Within (levelAt FIRST) (lengths (levelAt FIRST) (k .sizes) .matrix) (k .h)
-  x : Within (levelAt FIRST) (lengths (levelAt FIRST) (k .sizes) .vector) (k .x)
+pub record ValidFirst (k : First) : Type 0 where
+  pub sized : Sized (levelAt FIRST) (k .sizes)
+  pub h : Within (levelAt FIRST) (lengths (levelAt FIRST) (k .sizes) .matrix) (k .h)
+  pub x : Within (levelAt FIRST) (lengths (levelAt FIRST) (k .sizes) .vector) (k .x)
 
 abbrev firstFields : First → List (ℕ × List ℕ)
 firstFields k =
@@ -149,7 +152,7 @@ first-laws = record {
 }
 
 -- y after them
-abbrev ValidTarget : Key → List ℕ → Type 0
+abbrev pub ValidTarget : Key → List ℕ → Type 0
 ValidTarget key y = Within (levelAt FIRST) (lengths (levelAt FIRST) key .target) y
 
 abbrev keyTarget : Key → List ℕ → List Row
@@ -162,7 +165,7 @@ abbrev pub keyRowsAt : List ℕ → ℕ → List Row
 keyRowsAt s at = keyRows (levelAt FIRST) (keyAt s (at + 3)) s at
 
 -- the data of the key, taken apart
-abbrev firstPart : KeyData → First
+abbrev pub firstPart : KeyData → First
 firstPart k = record { sizes = k .sizes; h = k .slices .h; x = k .slices .x }
 
 abbrev apart : KeyData → First × List ℕ
@@ -179,20 +182,59 @@ parts-laws =
     followed (levelAt FIRST) firstFields ValidFirst firstTable firstRowsAt Any (λ k. k .sizes)
     targetFields ValidTarget keyTarget targetRows NotTarget first-laws (λ key h. target-laws _ (omega (arith, bounds key h .target))) (λ key y v rest m. tt) (λ e. omega (arith, e))
 
-parts-valid : (k : KeyData) → ValidKey (levelAt FIRST) k → ValidFirst (firstPart k) × ValidTarget (k .sizes) (k .slices .y)
-parts-valid k v = (record { sized = v .sized; h = v .h; x = v .x }, v .y)
+-- a key that the tests of its fields do not refuse: within the limits, but for its rows
+abbrev pub KeyPasses : KeyData → Type 0
+KeyPasses k = ValidFirst (firstPart k) × ValidTarget (k .sizes) (k .slices .y)
 
-pub key-laws : OpeningLaws (levelAt FIRST) keyFields (ValidKey (levelAt FIRST)) keyTable keyRowsAt NotTarget (λ k. k .sizes)
+pub key-laws : OpeningLaws (levelAt FIRST) keyFields KeyPasses keyTable keyRowsAt NotTarget (λ k. k .sizes)
 unfolding parts-laws
 key-laws = record {
   laws = record {
-    fits = λ k v. parts-laws .laws .fits (apart k) (parts-valid k v);
-    bytes = λ k v. parts-laws .laws .bytes (apart k) (parts-valid k v);
-    there = λ pre rest m k v. parts-laws .laws .there pre rest m (apart k) (parts-valid k v);
-    read = λ s b at e. let r = parts-laws .laws .read s b at e in (together (r .0), record { sized = r .1 .0 .sized; h = r .1 .0 .h; x = r .1 .0 .x; y = r .1 .1 }, r .2);
-    single = λ x y v w e. ap together (parts-laws .laws .single (apart x) (apart y) (parts-valid x v) (parts-valid y w) e);
+    fits = λ k v. parts-laws .laws .fits (apart k) v;
+    bytes = λ k v. parts-laws .laws .bytes (apart k) v;
+    there = λ pre rest m k v. parts-laws .laws .there pre rest m (apart k) v;
+    read = λ s b at e. let r = parts-laws .laws .read s b at e in (together (r .0), r .1, r .2);
+    single = λ x y v w e. ap together (parts-laws .laws .single (apart x) (apart y) v w e);
   };
-  sized = λ k v. v .sized;
-  starts = λ pre rest k v. parts-laws .starts pre rest (apart k) (parts-valid k v);
+  sized = λ k v. v .0 .sized;
+  starts = λ pre rest k v. parts-laws .starts pre rest (apart k) v;
   told = parts-laws .told;
+}
+
+-- the elements of H in bytes that begin with the key's fields
+matrix-there : (k : KeyData) → KeyPasses k → (rest : List ℕ) → matrixOf (levelAt FIRST) (joined (keyFields k) ++ rest) ≡ k .slices .h
+unfolding joined
+matrix-there k v rest =
+    let c = wordBytes (k .slices .h) in
+    let more = joined ((0x03, wordBytes (k .slices .x)) ∷ targetFields (k .slices .y)) in
+    let len = 2 * lengths (levelAt FIRST) (k .sizes) .matrix in
+    ap (λ s. words (take len s)) (append-assoc c more rest)
+    ∙ ap words (take-at c (more ++ rest) len (bytes-length (k .slices .h) ∙ ap (λ n. 2 * n) (v .0 .h .0)))
+    ∙ words-bytes (k .slices .h)
+
+-- 15 is told by the key, whatever fields follow its own
+pub key-leans : (k : KeyData) → KeyPasses k → (more : List (ℕ × List ℕ)) → leans (levelAt FIRST) (joined (keyFields k ++ more)) ≡ short (levelAt FIRST) (k .sizes .n) (k .sizes .m) (k .slices .h)
+unfolding joined
+key-leans k v more =
+    ap (leans (levelAt FIRST)) (joined-append (keyFields k) more)
+    ∙ ap (short (levelAt FIRST) (k .sizes .n) (k .sizes .m)) (matrix-there k v (joined more))
+
+-- a key within the limits is one that passes and whose rows do not lean on each other
+pub valid-passes : (k : KeyData) → ValidKey (levelAt FIRST) k → KeyPasses k
+valid-passes k v = (record { sized = v .sized; h = v .h; x = v .x }, v .y)
+
+pub valid-stands : (k : KeyData) → ValidKey (levelAt FIRST) k → short (levelAt FIRST) (k .sizes .n) (k .sizes .m) (k .slices .h) ≡ false
+valid-stands k v = pick (short (levelAt FIRST) (k .sizes .n) (k .sizes .m) (k .slices .h)) (leaning FIRST (k .sizes .n) (k .sizes .m) (k .slices .h) .0)
+  where
+    pick : (b : Bool) → (b ≡ true → Leaning (levelAt FIRST) (k .sizes .n) (k .sizes .m) (k .slices .h)) → b ≡ false
+    pick true d = absurd (v .rows (d refl))
+    pick false d = refl
+
+pub stands-valid : (k : KeyData) → KeyPasses k → short (levelAt FIRST) (k .sizes .n) (k .sizes .m) (k .slices .h) ≡ false → ValidKey (levelAt FIRST) k
+stands-valid k v e = record {
+  sized = v .0 .sized;
+  h = v .0 .h;
+  x = v .0 .x;
+  y = v .1;
+  rows = λ d. true≢false (sym (leaning FIRST (k .sizes .n) (k .sizes .m) (k .slices .h) .1 d) ∙ e);
 }

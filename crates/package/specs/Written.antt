@@ -8,6 +8,7 @@ use lib.ListN.{length}
 use Rattle.copying.specs.Words.{Bytes, twoBytes, fourBytes, wordBytes}
 use Rattle.field.specs.declared.Level.{Level}
 use Rattle.field.specs.Word.{within}
+use Rattle.elimination.specs.Rank.{Leaning}
 use Rattle.key.specs.declared.Key.{Key}
 use Rattle.key.specs.Key.{KeySlices, Sized, lengths, below}
 use Rattle.layout.specs.Tests.{zeros}
@@ -85,6 +86,8 @@ pub record ValidKey (l : Level) (k : KeyData) : Type 0 where
   pub h : Within l (lengths l (k .sizes) .matrix) (k .slices .h)
   pub x : Within l (lengths l (k .sizes) .vector) (k .slices .x)
   pub y : Within l (lengths l (k .sizes) .target) (k .slices .y)
+  -- "so a well-formed key now has rows that don't lean on each other"
+  pub rows : Leaning l (k .sizes .n) (k .sizes .m) (k .slices .h) → ⊥
 
 pub record ValidGroup (l : Level) (key : Key) (g : Group) : Type 0 where
   pub serial : g .serial < 4294967296

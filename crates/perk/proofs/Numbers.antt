@@ -2,22 +2,29 @@
 use mathlib.Core.Path.{_≡_, refl, sym, ap, _∙_}
 use mathlib.Core.Logic.{_↔_}
 use mathlib.Core.Bool.{Bool, true, false}
-use mathlib.Core.List.{List, [], _∷_, _++_}
+use mathlib.Core.List.{List, [], _∷_}
 use Prim.Native.Nat.{ℕ, _<_}
 use native.Mathlib.Omega.{arith}
 use Rattle.refusal.specs.Answer.{numberOf, refusal, firstOf}
-use Rattle.refusal.specs.Verdict.{verdictNumber, judged}
+use Rattle.refusal.specs.Verdict.{verdictNumber, turned, judged}
 use Rattle.refusal.specs.declared.Answer.{Answer}
 use Rattle.refusal.specs.declared.Answer.the-variants.{Done, Refused}
 use Rattle.refusal.specs.declared.Verdict.{Verdict}
 use Rattle.refusal.specs.declared.Verdict.the-variants.{Accepted, Rejected, Refused as Turned}
+use Rattle.field.specs.declared.Level.{Level}
+use Rattle.key.specs.declared.Key.{Key}
+use Rattle.key.specs.Key.{KeySlices, Leans}
+
+-- one equivalence after another
+pub both : {A B C : Type 0} → A ↔ B → B ↔ C → A ↔ C
+both f g = (λ a. g .0 (f .0 a), λ c. f .1 (g .1 c))
 
 -- no row has the number of an answer that is no refusal: 0, or 255
 abbrev pub Refusals : List (Bool × ℕ) → Type 0
 Refusals [] = Unit {0}
 Refusals ((b, k) ∷ rows) = (0 < k) × (k < 255) × Refusals rows
 
-zero-done : (rows : List (Bool × ℕ)) → Refusals rows → numberOf (firstOf rows) ≡ 0 → firstOf rows ≡ Done
+pub zero-done : (rows : List (Bool × ℕ)) → Refusals rows → numberOf (firstOf rows) ≡ 0 → firstOf rows ≡ Done
 zero-done [] f e = refl
 zero-done ((false, k) ∷ rows) f e = zero-done rows (f .2) e
 zero-done ((true, k) ∷ rows) f e = absurd (omega (arith, f .0, e))
@@ -33,6 +40,10 @@ module _ {r : Answer} {k : ℕ} (e : k ≡ numberOf r) where
       only : (a : Answer) → numberOf a ≡ j → a ≡ refusal j
       only Done z = absurd (omega (arith, p, z))
       only (Refused a) z = ap refusal z
+
+-- and so with 15 of an entry that takes a key
+pub told-leans : {l : Level} {key : Key} {slices : Bool} {lent : KeySlices} {r : Answer} {k : ℕ} → k ≡ numberOf r → Leans l key slices lent (r ≡ refusal 15) → Leans l key slices lent (k ≡ 15)
+told-leans e known = record { fifteen = both (told-refusal e 15 (omega arith)) (known .fifteen) }
 
 zero-accepted : (rows : List (Bool × ℕ)) → Refusals rows → (b : Bool) → verdictNumber (judged (firstOf rows) b) ≡ 0 → judged (firstOf rows) b ≡ Accepted
 zero-accepted [] f true e = refl
@@ -54,6 +65,11 @@ module _ {v : Verdict} {k : ℕ} (e : k ≡ verdictNumber v) (rows : List (Bool 
   pub told-rejected : (k ≡ 255) ↔ (v ≡ Rejected)
   told-rejected = (λ z. is ∙ last-rejected rows f b (sym (ap verdictNumber is) ∙ sym e ∙ z), λ d. e ∙ ap verdictNumber d)
 
--- one equivalence after another
-pub both : {A B C : Type 0} → A ↔ B → B ↔ C → A ↔ C
-both f g = (λ a. g .0 (f .0 a), λ c. f .1 (g .1 c))
+-- a refusal of the verdict, by its number
+pub turned-leans : {l : Level} {key : Key} {slices : Bool} {lent : KeySlices} {v : Verdict} {k : ℕ} → k ≡ verdictNumber v → Leans l key slices lent (v ≡ turned 15) → Leans l key slices lent (k ≡ 15)
+turned-leans {v = v} e known = record { fifteen = both (λ z. only v (sym e ∙ z), λ d. e ∙ ap verdictNumber d) (known .fifteen) }
+  where
+    only : (v : Verdict) → verdictNumber v ≡ 15 → v ≡ turned 15
+    only Accepted z = absurd (omega (arith, z))
+    only Rejected z = absurd (omega (arith, z))
+    only (Turned q) z = ap turned z

@@ -6,16 +6,19 @@ ghost use Rattle.refusal.specs.Verdict.{verdictNumber};
 ghost use Rattle.arithmetic.specs.Entry.{sumOutcome, productOutcome};
 ghost use Rattle.field.specs.Level.{FIRST, levelAt};
 ghost use Rattle.key.specs.Key.{keySlices};
-ghost use Rattle.constraints.specs.Entry.{constraintsOutcome, valuesOutcome};
+ghost use Rattle.constraints.specs.Entry.{constraintsOutcome, constraintsLeans, valuesOutcome, valuesLeans};
 ghost use Rattle.constraints.specs.Truth.{Truth};
-ghost use Rattle.prover.specs.Entry.{proveOutcome};
+ghost use Rattle.prover.specs.Entry.{proveOutcome, proveLeans};
 ghost use Rattle.prover.specs.Solved.{Solved};
-ghost use Rattle.verifier.specs.Entry.{verifyOutcome, Judges};
+ghost use Rattle.verifier.specs.Entry.{verifyOutcome, verifyLeans, Judges};
 ghost use Rattle.package.specs.Reading.{packageReader, checkFileReader, reading, fieldPart};
 ghost use Rattle.checkfile.specs.Checking.{checkNumber, checking};
+ghost use Rattle.rank.specs.Entry.{rankOutcome, Tells};
 ghost use Rattle.perk.specs.Files.{SmallSizes, readPut, spanOf};
+ghost use Rattle.perk.specs.Rank.{rankOr, rankPut};
 use key::Key;
 use package::Read;
+use rank::Ranked;
 
 // The sum of two elements of K.
 #[no_mangle]
@@ -48,6 +51,7 @@ pub extern "C" fn perk_constraints(
     polynomials: &mut [u16],
 ) -> u32
     ensures outcome { λ r. ⌜ (r, (now (t .exit), now (polynomials .exit))) ≡ numbered (constraintsOutcome (levelAt FIRST) (record { n = n; m = m }) (keySlices (now (h .entry)) (now (x .entry)) (now (y .entry))) (now (positions .entry)) (now (u .entry)) (now (v .entry)) (now (t .entry)) (now (polynomials .entry))) ⌝ }
+    ensures leans { λ r. ⌜ constraintsLeans (levelAt FIRST) (record { n = n; m = m }) (keySlices (now (h .entry)) (now (x .entry)) (now (y .entry))) (now (positions .entry)) (now (u .entry)) (now (v .entry)) (now (t .entry)) (now (polynomials .entry)) (r ≡ 15) ⌝ }
     ensures truth { λ r. ⌜ (r ≡ 0 → Truth (levelAt FIRST) n m (keySlices (now (h .entry)) (now (x .entry)) (now (y .entry))) (now (positions .entry)) (now (u .entry)) (now (v .entry)) (now (t .exit)) (now (polynomials .exit))) ⌝ }
 {
     let key = Key { n, m };
@@ -67,7 +71,8 @@ pub extern "C" fn perk_values(
     delta: &[u16],
     values: &mut [u16],
 ) -> u32
-    ensures { λ r. ⌜ (r, now (values .exit)) ≡ numbered (valuesOutcome (levelAt FIRST) (record { n = n; m = m }) (keySlices (now (h .entry)) (now (x .entry)) (now (y .entry))) (now (t .entry)) (now (q .entry)) (now (delta .entry)) (now (values .entry))) ⌝ }
+    ensures outcome { λ r. ⌜ (r, now (values .exit)) ≡ numbered (valuesOutcome (levelAt FIRST) (record { n = n; m = m }) (keySlices (now (h .entry)) (now (x .entry)) (now (y .entry))) (now (t .entry)) (now (q .entry)) (now (delta .entry)) (now (values .entry))) ⌝ }
+    ensures leans { λ r. ⌜ valuesLeans (levelAt FIRST) (record { n = n; m = m }) (keySlices (now (h .entry)) (now (x .entry)) (now (y .entry))) (now (t .entry)) (now (q .entry)) (now (delta .entry)) (now (values .entry)) (r ≡ 15) ⌝ }
 {
     let key = Key { n, m };
     refusal::number(constraints::values(key, h, x, y, t, q, delta, values))
@@ -91,6 +96,7 @@ pub extern "C" fn perk_prove(
     a: &mut [u16],
 ) -> u32
     ensures outcome { λ o. ⌜ (o, (now (t .exit), now (a .exit))) ≡ numbered (proveOutcome (levelAt FIRST) (record { n = n; m = m }) (keySlices (now (h .entry)) (now (x .entry)) (now (y .entry))) (now (positions .entry)) (now (u .entry)) (now (v .entry)) (now (r .entry)) (now (s .entry)) (now (alpha .entry)) (now (t .entry)) (now (a .entry))) ⌝ }
+    ensures leans { λ o. ⌜ proveLeans (levelAt FIRST) (record { n = n; m = m }) (keySlices (now (h .entry)) (now (x .entry)) (now (y .entry))) (now (positions .entry)) (now (u .entry)) (now (v .entry)) (now (r .entry)) (now (s .entry)) (now (alpha .entry)) (now (t .entry)) (now (a .entry)) (o ≡ 15) ⌝ }
     ensures solved { λ o. ⌜ Solved (levelAt FIRST) (record { n = n; m = m }) (keySlices (now (h .entry)) (now (x .entry)) (now (y .entry))) (now (positions .entry)) (now (u .entry)) (now (v .entry)) (now (r .entry)) (now (s .entry)) (now (alpha .entry)) (now (t .entry)) (now (a .entry)) (o ≡ 0) (o ≡ 8) (o ≡ 16) ⌝ }
 {
     let key = Key { n, m };
@@ -113,10 +119,40 @@ pub extern "C" fn perk_verify(
     a: &[u16],
 ) -> u32
     ensures outcome { λ o. ⌜ o ≡ verdictNumber (verifyOutcome (levelAt FIRST) (record { n = n; m = m }) (keySlices (now (h .entry)) (now (x .entry)) (now (y .entry))) (now (t .entry)) (now (q .entry)) (now (delta .entry)) (now (masks .entry)) (now (alpha .entry)) (now (a .entry))) ⌝ }
+    ensures leans { λ o. ⌜ verifyLeans (levelAt FIRST) (record { n = n; m = m }) (keySlices (now (h .entry)) (now (x .entry)) (now (y .entry))) (now (t .entry)) (now (q .entry)) (now (delta .entry)) (now (masks .entry)) (now (alpha .entry)) (now (a .entry)) (o ≡ 15) ⌝ }
     ensures judges { λ o. ⌜ Judges (levelAt FIRST) (record { n = n; m = m }) (keySlices (now (h .entry)) (now (x .entry)) (now (y .entry))) (now (t .entry)) (now (q .entry)) (now (delta .entry)) (now (masks .entry)) (now (alpha .entry)) (now (a .entry)) (o ≡ 0) (o ≡ 255) ⌝ }
 {
     let key = Key { n, m };
     refusal::verdict_number(verifier::verify(key, h, x, y, t, q, delta, masks, alpha, a))
+}
+
+// The number of an answer; the rank is written where it is no refusal.
+fn put_rank(answer: Ranked, rank: &mut usize) -> u32
+    ensures { λ r. ⌜ (r, now (rank .exit)) ≡ rankOr answer (now (rank .entry)) ⌝ }
+{
+    match answer {
+        Ranked::Rank(found) => {
+            *rank = found;
+            0
+        }
+        Ranked::Refused(refusal) => refusal.number,
+    }
+}
+
+// The rank of H, and its cleared form.
+#[no_mangle]
+pub extern "C" fn perk_rank(
+    n: usize,
+    m: usize,
+    h: &[u16],
+    matrix: &mut [u16],
+    rank: &mut usize,
+) -> u32
+    ensures outcome { λ r. ⌜ (r, (now (matrix .exit), now (rank .exit))) ≡ rankPut (rankOutcome (levelAt FIRST) (record { n = n; m = m }) (now (h .entry)) (now (matrix .entry))) (now (rank .entry)) ⌝ }
+    ensures tells { λ r. ⌜ (r ≡ 0 → Tells (levelAt FIRST) (record { n = n; m = m }) (now (h .entry)) (now (rank .exit))) ⌝ }
+{
+    let key = Key { n, m };
+    put_rank(rank::rank(key, h, matrix), rank)
 }
 
 // The number of a reader's answer; n, m and the serial are written where it is no refusal.

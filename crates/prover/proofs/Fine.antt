@@ -14,11 +14,12 @@ use Rattle.refusal.proofs.Answers.{both-done}
 use Rattle.field.specs.declared.Level.{Level}
 use Rattle.field.specs.Level.{FIRST, levelAt}
 use Rattle.field.proofs.Fields.{bounded, first-most, first-narrow}
-use Rattle.row.specs.Elements.{Words, Bits, Fits}
+use Rattle.field.specs.Word.{Words}
+use Rattle.row.specs.Elements.{Bits, Fits}
 use Rattle.row.specs.Lent.{LentKey, LentTarget}
 use Rattle.key.specs.declared.Key.{Key}
 use Rattle.key.specs.declared.Lengths.{Lengths}
-use Rattle.key.specs.Key.{degree, KeySlices, lengths, Sized, keyWithin, below, codesOf, isTooLarge, withins, spareRow}
+use Rattle.key.specs.Key.{degree, KeySlices, lengths, Sized, below, codesOf, isTooLarge, withins, spareRow}
 use Rattle.key.proofs.Sized.{degree-fits}
 use Rattle.key.proofs.Fine.{below-lt, each-within}
 use Rattle.key.proofs.Codes.{codes-lt}
@@ -55,7 +56,7 @@ module _ (number : ℕ) (key : Key) where
 
   pub prove-fine : (lent : KeySlices) (positions u v r s α t a : List ℕ) → firstOf (rowsTo7 l key lent positions u v r s α t a) ≡ Done → ProveFine lent positions u v r s α t a
   prove-fine lent positions u v r s α t a e =
-      let c = checked l key (long (proveLent len lent positions u v r s α t a)) (keyWithin l lent) (below 1 u) (withins l (v ∷ r ∷ s ∷ α ∷ [])) (codesOf (key .n) positions) e in
+      let c = checked l key (long (proveLent len lent positions u v r s α t a)) lent (below 1 u) (withins l (v ∷ r ∷ s ∷ α ∷ [])) (codesOf (key .n) positions) e in
       let b = each-long (proveLent len lent positions u v r s α t a) (c .slices-fine) in
       let f = each-within l (v ∷ r ∷ s ∷ α ∷ []) (c .coordinates-fine) in
       record {

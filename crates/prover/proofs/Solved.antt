@@ -1,16 +1,16 @@
--- Prove's answer is Done exactly when the positions solve the key, and 8 exactly when they do not, past refusals 1 to 7 and 16; it is 16 exactly
--- when a position is a spare code, past 1 to 7.
+-- Prove's answer is Done exactly when the positions solve the key, and 8 exactly when they do not, past refusals 1 to 7, 15 and 16; it is 16 exactly
+-- when a position is a spare code, past 1 to 7 and 15.
 use mathlib.Core.Path.{_≡_, refl, sym, ap, _∙_}
 use mathlib.Core.Bool.{Bool, true, false, not, false≢true}
 use mathlib.Core.Logic.{_↔_}
-use mathlib.Core.List.{List, [], _∷_, _++_}
+use mathlib.Core.List.{List, [], _++_}
 use Prim.Native.Nat.{ℕ}
 use native.Mathlib.Omega.{arith}
 use borrow.Author.Tests.{not-false}
-use Rattle.refusal.specs.Answer.{numberOf, refusal, firstOf}
+use Rattle.refusal.specs.Answer.{refusal, firstOf}
 use Rattle.refusal.specs.declared.Answer.{Answer}
-use Rattle.refusal.specs.declared.Answer.the-variants.{Done, Refused}
-use Rattle.refusal.proofs.Answers.{none, pass, stop, after-done, after-refused, both-done, not-both}
+use Rattle.refusal.specs.declared.Answer.the-variants.{Done}
+use Rattle.refusal.proofs.Answers.{none, pass, stop, after-done, both-done}
 use Rattle.field.specs.declared.Level.{Level}
 use Rattle.field.specs.Level.{levelAt}
 use Rattle.field.proofs.Fields.{bounded}
@@ -19,6 +19,7 @@ use Rattle.key.specs.declared.Code.{Code}
 use Rattle.key.specs.Key.{KeySlices, codesOf, isSpare, spareRow}
 use Rattle.key.proofs.Sized.{degree-fits}
 use Rattle.key.proofs.Codes.{columns, some-spare, spare-told, code-column}
+use Rattle.key.proofs.Leans.{Others, decides}
 use Rattle.constraints.specs.Entry.{system}
 use Rattle.constraints.specs.Slices.{positionAt, witnessOf}
 use Rattle.constraints.proofs.Count.{order-below}
@@ -28,28 +29,6 @@ use Rattle.checkzero.proofs.Written.{tops-true}
 use Rattle.prover.specs.Entry.{rowsTo7, proveRows, topsRow}
 use Rattle.prover.specs.Solved.{SolvesKey, HasSpare, Solved, SpareNeverSolves}
 use Rattle.prover.proofs.Fine.{prove-fine}
-
--- the rows have other numbers than b
-abbrev Others : ℕ → List (Bool × ℕ) → Type 0
-Others b [] = Unit {0}
-Others b ((t, k) ∷ rows) = (k ≡ b → ⊥) × Others b rows
-
-others : (b : ℕ) (rows : List (Bool × ℕ)) → Others b rows → firstOf rows ≡ refusal b → ⊥
-others b [] h e = not-both refl e
-others b ((false, k) ∷ rows) h e = others b rows (h .1) e
-others b ((true, k) ∷ rows) h e = h .0 (ap numberOf e)
-
--- a row with a number of its own gives the answer only where it applies, and none before it
-decides : (rows : List (Bool × ℕ)) (b : Bool) (k : ℕ) (after : List (Bool × ℕ)) → Others k rows → Others k after → firstOf (rows ++ ((b, k) ∷ after)) ≡ refusal k → (firstOf rows ≡ Done) × (b ≡ true)
-decides rows b k after other later e = go (firstOf rows) refl
-  where
-    applies : (t : Bool) → firstOf ((t, k) ∷ after) ≡ refusal k → t ≡ true
-    applies false e = absurd (others k after later e)
-    applies true e = refl
-
-    go : (r : Answer) → firstOf rows ≡ r → (firstOf rows ≡ Done) × (b ≡ true)
-    go Done h = (h, applies b (sym (after-done rows ((b, k) ∷ after) h) ∙ e))
-    go (Refused q) h = absurd (others k rows other (after-refused rows ((b, k) ∷ after) refl h ∙ e))
 
 -- spare codes never solve
 pub never-solves : (l : Level) → SpareNeverSolves l
@@ -111,10 +90,10 @@ module _ (number : ℕ) (key : Key) (lent : KeySlices) (positions u v r s α t a
       first d = both-done (rowsTo7 (levelAt number) key lent positions u v r s α t a) (spareRow (codesOf (key .n) positions)) d .0
 
       no-8 : Others 8 (proveRows (levelAt number) key lent positions u v r s α t a)
-      no-8 = (λ z. omega (arith, z), (λ z. omega (arith, z), (λ z. omega (arith, z), (λ z. omega (arith, z), (λ z. omega (arith, z), (λ z. omega (arith, z), (λ z. omega (arith, z), (λ z. omega (arith, z), (λ z. omega (arith, z), (λ z. omega (arith, z), tt))))))))))
+      no-8 = (λ z. omega (arith, z), (λ z. omega (arith, z), (λ z. omega (arith, z), (λ z. omega (arith, z), (λ z. omega (arith, z), (λ z. omega (arith, z), (λ z. omega (arith, z), (λ z. omega (arith, z), (λ z. omega (arith, z), (λ z. omega (arith, z), (λ z. omega (arith, z), tt)))))))))))
 
       no-16 : Others 16 (rowsTo7 (levelAt number) key lent positions u v r s α t a)
-      no-16 = (λ z. omega (arith, z), (λ z. omega (arith, z), (λ z. omega (arith, z), (λ z. omega (arith, z), (λ z. omega (arith, z), (λ z. omega (arith, z), (λ z. omega (arith, z), (λ z. omega (arith, z), (λ z. omega (arith, z), tt)))))))))
+      no-16 = (λ z. omega (arith, z), (λ z. omega (arith, z), (λ z. omega (arith, z), (λ z. omega (arith, z), (λ z. omega (arith, z), (λ z. omega (arith, z), (λ z. omega (arith, z), (λ z. omega (arith, z), (λ z. omega (arith, z), (λ z. omega (arith, z), tt))))))))))
 
       never : (b : Bool) → (b ≡ true → ⊥) → not b ≡ true
       never true f = absurd (f refl)

@@ -15,7 +15,8 @@ use Rattle.row.specs.Elements.{el}
 use Rattle.row.specs.Polynomial.{column, check}
 use Rattle.row.specs.Lent.{smallOf, entryOf, digitOf, elementOf}
 use Rattle.key.specs.Key.{degree, KeySlices}
-use Rattle.constraints.specs.Graded.{sigma, Polynomial, coefficient, polynomials}
+use Rattle.constraints.specs.Graded.{Polynomial, coefficient, polynomials}
+use Rattle.field.specs.Sums.{sigma}
 use Rattle.constraints.specs.System.{System, polynomial}
 use Rattle.constraints.specs.Slices.{elementAt, elements, systemOf, witnessOf}
 use Rattle.constraints.proofs.Coefficients.{coefficient-vector, coefficient-total, coefficient-scale}

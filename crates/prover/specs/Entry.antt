@@ -8,7 +8,7 @@ use Rattle.refusal.specs.declared.Answer.{Answer}
 use Rattle.field.specs.declared.Level.{Level}
 use Rattle.key.specs.declared.Key.{Key}
 use Rattle.key.specs.declared.Lengths.{Lengths}
-use Rattle.key.specs.Key.{KeySlices, lengths, sizes, keyLent, keyWithin, below, codesOf, withins, checks, spareRow}
+use Rattle.key.specs.Key.{KeySlices, lengths, sizes, keyLent, below, codesOf, withins, checks, Leans, spareRow}
 use Rattle.constraints.specs.Entry.{system}
 use Rattle.constraints.specs.Slices.{maskedBytes, witnessOf}
 use Rattle.checkzero.specs.Slices.{topsZero, proofWords}
@@ -28,14 +28,18 @@ proveLent len lent positions u v r s α t a =
     ∷ [])
 
 module _ (l : Level) (key : Key) where
-  -- refusals 1 to 7, in order
+  -- refusals 1 to 7, and 15 after 4, in order
   abbrev pub rowsTo7 : KeySlices → (positions u v r s α t a : List ℕ) → List (Bool × ℕ)
   rowsTo7 lent positions u v r s α t a =
-      sizes l key ++ checks (long (proveLent (lengths l key) lent positions u v r s α t a)) (keyWithin l lent) (below 1 u) (withins l (v ∷ r ∷ s ∷ α ∷ [])) (codesOf (key .n) positions)
+      sizes l key ++ checks l key (long (proveLent (lengths l key) lent positions u v r s α t a)) lent (below 1 u) (withins l (v ∷ r ∷ s ∷ α ∷ [])) (codesOf (key .n) positions)
 
   -- and 16, "after 7 and before 8"
   abbrev pub proveRows : KeySlices → (positions u v r s α t a : List ℕ) → List (Bool × ℕ)
   proveRows lent positions u v r s α t a = rowsTo7 lent positions u v r s α t a ++ spareRow (codesOf (key .n) positions)
+
+  -- past 1 to 4, 15 is the answer exactly when the rows of H lean on each other
+  abbrev pub proveLeans : KeySlices → (positions u v r s α t a : List ℕ) → (IsFifteen : Type 0) → Type 0
+  proveLeans lent positions u v r s α t a = Leans l key (long (proveLent (lengths l key) lent positions u v r s α t a)) lent
 
   -- "prove, before writing": 8 "some top coefficient of the n + m polynomials isn't zero"
   abbrev pub topsRow : KeySlices → (positions v : List ℕ) → List (Bool × ℕ)

@@ -21,8 +21,8 @@ SolvesKey l key lent positions = Order (key .n) (positionAt positions) × Solves
 abbrev pub HasSpare : (n : ℕ) (positions : List ℕ) → Type 0
 HasSpare n positions = (i : ℕ) × (i < n) × (codeOf n (positionAt positions i) ≡ Spare)
 
--- past refusals 1 to 7 and 16 prove is done exactly when they do, and answers 8 exactly when they do not; past 1 to 7 it answers 16 exactly when
--- a position is a spare code. Each function says how its answer tells the three.
+-- past refusals 1 to 7, 15 and 16 prove is done exactly when they do, and answers 8 exactly when they do not; past 1 to 7 and 15 it answers 16
+-- exactly when a position is a spare code. Each function says how its answer tells the three.
 pub record Solved (l : Level) (key : Key) (lent : KeySlices) (positions u v r s α t a : List ℕ) (IsDone IsEight IsSixteen : Type 0) : Type 0 where
   pub done : IsDone ↔ ((firstOf (proveRows l key lent positions u v r s α t a) ≡ Done) × SolvesKey l key lent positions)
   pub eight : IsEight ↔ ((firstOf (proveRows l key lent positions u v r s α t a) ≡ Done) × (SolvesKey l key lent positions → ⊥))

@@ -13,7 +13,7 @@ ghost use Rattle.key.specs.Key.{Sized, keySlices, lengths};
 ghost use Rattle.constraints.specs.Entry.{system};
 ghost use Rattle.constraints.specs.Slices.{witnessOf};
 ghost use Rattle.checkzero.specs.Slices.{topsZero};
-ghost use Rattle.prover.specs.Entry.{proveLent, proveRows, topsRow, proveResult, proveOutcome};
+ghost use Rattle.prover.specs.Entry.{proveLent, proveRows, proveLeans, topsRow, proveResult, proveOutcome};
 ghost use Rattle.prover.specs.Solved.{Solved};
 use field::FIRST;
 use key::Key;
@@ -52,7 +52,7 @@ fn lengths(
     (h.len() ^ len.matrix) | ((x.len() ^ len.vector) | ((y.len() ^ len.target) | material))
 }
 
-// The first of refusals 1 to 7 and 16 that applies, or Done.
+// The first of refusals 1 to 7, 15 and 16 that applies, or Done.
 fn refused(
     key: Key,
     h: &[u16],
@@ -77,10 +77,13 @@ fn refused(
     if slices != 0 {
         return Answer::Refused(Refusal::SLICE_LENGTH);
     }
-    let elements = key::excess(h, x, y, FIRST);
+    let contents = key.contents(h, x, y, FIRST);
+    if let Answer::Refused(_) = contents {
+        return contents;
+    }
     let coordinates = field::excess(v, FIRST)
         | (field::excess(r, FIRST) | (field::excess(s, FIRST) | field::excess(alpha, FIRST)));
-    key::contents(elements, key::over(u, 1), coordinates, key.codes(positions))
+    key::material(key::over(u, 1), coordinates, key.codes(positions))
 }
 
 // Zero exactly when all n + m top coefficients are zero; they do not depend on the offsets. p is room for them, work for 2^d elements.
@@ -189,6 +192,7 @@ pub fn prove(
     a: &mut [u16],
 ) -> Answer
     ensures outcome { λ o. ⌜ (o, (now (t .exit), now (a .exit))) ≡ proveOutcome (levelAt FIRST) key (keySlices (now (h .entry)) (now (x .entry)) (now (y .entry))) (now (positions .entry)) (now (u .entry)) (now (v .entry)) (now (r .entry)) (now (s .entry)) (now (alpha .entry)) (now (t .entry)) (now (a .entry)) ⌝ }
+    ensures leans { λ o. ⌜ proveLeans (levelAt FIRST) key (keySlices (now (h .entry)) (now (x .entry)) (now (y .entry))) (now (positions .entry)) (now (u .entry)) (now (v .entry)) (now (r .entry)) (now (s .entry)) (now (alpha .entry)) (now (t .entry)) (now (a .entry)) (o ≡ refusal 15) ⌝ }
     ensures solved { λ o. ⌜ Solved (levelAt FIRST) key (keySlices (now (h .entry)) (now (x .entry)) (now (y .entry))) (now (positions .entry)) (now (u .entry)) (now (v .entry)) (now (r .entry)) (now (s .entry)) (now (alpha .entry)) (now (t .entry)) (now (a .entry)) (o ≡ Done) (o ≡ refusal 8) (o ≡ refusal 16) ⌝ }
 {
     let answer = refused(key, h, x, y, positions, u, v, r, s, alpha, t, a);

@@ -13,6 +13,10 @@ verdictNumber Accepted = 0
 verdictNumber Rejected = 255
 verdictNumber (Turned r) = r .number
 
+-- the refusal with this number
+abbrev pub turned : ℕ → Verdict
+turned k = Turned (record { number = k })
+
 -- where no row applies, "answers Accepted or Rejected" by the equation
 abbrev pub judged : Answer → Bool → Verdict
 judged Done true = Accepted

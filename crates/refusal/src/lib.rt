@@ -35,6 +35,8 @@ impl Refusal {
     pub const BYTES_FOLLOW: Refusal = Refusal { number: 12 };
     // field 04 is present and all its elements are zero
     pub const ZERO_TARGET: Refusal = Refusal { number: 14 };
+    // some coefficients from F, not all zero, combine the rows of H to zero
+    pub const DEPENDENT_ROWS: Refusal = Refusal { number: 15 };
     // a position is a spare code, and none is 2^d or more
     pub const SPARE_CODE: Refusal = Refusal { number: 16 };
     // a four-byte serial is below 65,536

@@ -12,11 +12,11 @@ use Rattle.lists.specs.Words.{part, put}
 use Rattle.lists.proofs.Words.{part-at, part-length, put-length}
 use Rattle.field.specs.declared.Level.{Level}
 use Rattle.field.specs.Level.{K}
-use Rattle.field.specs.Word.{element, words}
+use Rattle.field.specs.Word.{element, words, Words}
 use Rattle.field.specs.Packed.{coordinate, Holds}
 use Rattle.field.proofs.Elements.{words-length, words-lt, element-words, words-element-lt, zero-word}
 use Rattle.row.specs.Lists.{tab}
-use Rattle.row.specs.Elements.{el, Fits, Words, valueOf, Held}
+use Rattle.row.specs.Elements.{el, Fits, valueOf, Held}
 use Rattle.row.specs.Step.{Step, Put, PutTwo}
 use Rattle.row.proofs.ListLaws.{tab-length, tab-at, put-before, put-in, put-after, blanks, blanks-length, blanks-at}
 use Rattle.row.proofs.NumberLaws.{row-le, row-next}

@@ -1,6 +1,6 @@
 -- Elements of K in lent words and in packed words.
 use mathlib.Core.List.{List}
-use Prim.Native.Nat.{ℕ, _*_, _^_, _<_, _≤_}
+use Prim.Native.Nat.{ℕ, _*_, _<_, _≤_}
 use lib.ListN.{getD}
 use Rattle.lists.specs.Words.{part}
 use Rattle.field.specs.declared.Level.{Level}
@@ -17,10 +17,6 @@ el l s i = element l (part (l .coordinates * i) (l .coordinates) s)
 -- a list of this length has the words of n elements, and at least n words
 abbrev pub Fits : Level → ℕ → ℕ → Type 0
 Fits l n size = (l .coordinates * n ≤ size) × (n ≤ size)
-
--- every word has at most width bits
-abbrev pub Words : Level → List ℕ → Type 0
-Words l s = (k : ℕ) → getD s k 0 < 2 ^ l .width
 
 -- every word is within the limit
 abbrev pub Within : Level → List ℕ → Type 0

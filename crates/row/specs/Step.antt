@@ -7,7 +7,8 @@ use lib.ListN.{length}
 use Rattle.field.specs.Ring.{Ring}
 use Rattle.field.specs.declared.Level.{Level}
 use Rattle.field.specs.Level.{K}
-use Rattle.row.specs.Elements.{el, Words}
+use Rattle.field.specs.Word.{Words}
+use Rattle.row.specs.Elements.{el}
 use Rattle.row.specs.Polynomial.{sum, times, monomial}
 
 -- a list of words became another as long, and P holds of their elements

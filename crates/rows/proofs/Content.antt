@@ -10,8 +10,8 @@ use Rattle.lists.specs.Words.{part, concat}
 use Rattle.lists.proofs.Concat.{concat-cong, concat-append}
 use Rattle.field.specs.declared.Level.{Level}
 use Rattle.field.specs.Level.{K}
-use Rattle.field.specs.Word.{words}
-use Rattle.row.specs.Elements.{el, Words}
+use Rattle.field.specs.Word.{words, Words}
+use Rattle.row.specs.Elements.{el}
 use Rattle.row.specs.Polynomial.{sum, monomial}
 use Rattle.row.specs.Step.{Step, Topped}
 use Rattle.row.proofs.NumberLaws.{row-le}

@@ -17,7 +17,7 @@ use Rattle.field.proofs.Fields.{bounded}
 use Rattle.key.specs.declared.Key.{Key}
 use Rattle.key.specs.declared.Lengths.{Lengths}
 use Rattle.key.specs.declared.Code.the-variants.{Column}
-use Rattle.key.specs.Key.{degree, KeySlices, lengths, keyWithin, below, codesOf, withins}
+use Rattle.key.specs.Key.{degree, KeySlices, lengths, below, codesOf, withins}
 use Rattle.key.proofs.Checked.{Checked, checked, checked-done}
 use Rattle.constraints.specs.System.{System}
 use Rattle.constraints.specs.Entry.{system}
@@ -51,19 +51,20 @@ module _ (number : ℕ) (key : Key) (lent : KeySlices) (positions u v r s α t�
   abbrev a : List ℕ
   a = proofWords l S w v r s α
 
-  known : Checked l key (long (proveLent len lent positions u v r s α t₀ a₀)) (keyWithin l lent) (below 1 u) (withins l (v ∷ r ∷ s ∷ α ∷ [])) (codesOf (key .n) positions)
-  known = checked l key (long (proveLent len lent positions u v r s α t₀ a₀)) (keyWithin l lent) (below 1 u) (withins l (v ∷ r ∷ s ∷ α ∷ [])) (codesOf (key .n) positions) e
+  known : Checked l key (long (proveLent len lent positions u v r s α t₀ a₀)) lent (below 1 u) (withins l (v ∷ r ∷ s ∷ α ∷ [])) (codesOf (key .n) positions)
+  known = checked l key (long (proveLent len lent positions u v r s α t₀ a₀)) lent (below 1 u) (withins l (v ∷ r ∷ s ∷ α ∷ [])) (codesOf (key .n) positions) e
 
   slices : Long (proveLent len lent positions u v r s α t₀ a₀)
   slices = each-long (proveLent len lent positions u v r s α t₀ a₀) (known .slices-fine)
 
   -- none of verify's refusals applies to it
   not-refused : firstOf (verifyRows l key lent t q Δ masks α a) ≡ Done
-  not-refused = checked-done l key (long (verifyLent len lent t q Δ masks α a)) (keyWithin l lent) (below 1 t) (withins l (q ∷ Δ ∷ masks ∷ α ∷ a ∷ [])) Column (record {
+  not-refused = checked-done l key (long (verifyLent len lent t q Δ masks α a)) lent (below 1 t) (withins l (q ∷ Δ ∷ masks ∷ α ∷ a ∷ [])) Column (record {
     is-sized = known .is-sized;
     slices-fine = long-each (verifyLent len lent t q Δ masks α a)
         (slices .0, (slices .1 .0, (slices .1 .1 .0, (masked-length l S w u ∙ mul-comm (degree (key .n)) (key .n), (o .q-length, (o .Δ-length, (o .masks-length, (slices .1 .1 .1 .1 .1 .1 .1 .1 .0, (proof-length l S w v r s α, tt)))))))));
     elements-fine = known .elements-fine;
+    rows-fine = known .rows-fine;
     bits-fine = masked-below l S w u;
     coordinates-fine = joined (within l q) (within l Δ) (within l masks) (within l α) (within l a) (o .within-limit) (last (within l v) (within l r) (within l s) (within l α) (known .coordinates-fine)) (proof-within l S (bounded number .whole) w v r s α);
     positions-fine = refl;

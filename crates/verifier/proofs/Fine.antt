@@ -11,12 +11,13 @@ use Rattle.refusal.specs.declared.Answer.the-variants.{Done}
 use Rattle.field.specs.declared.Level.{Level}
 use Rattle.field.specs.Level.{levelAt}
 use Rattle.field.proofs.Fields.{bounded}
-use Rattle.row.specs.Elements.{Words, Bits}
+use Rattle.field.specs.Word.{Words}
+use Rattle.row.specs.Elements.{Bits}
 use Rattle.row.specs.Lent.{LentKey, LentTarget}
 use Rattle.key.specs.declared.Key.{Key}
 use Rattle.key.specs.declared.Lengths.{Lengths}
 use Rattle.key.specs.declared.Code.the-variants.{Column}
-use Rattle.key.specs.Key.{degree, KeySlices, lengths, Sized, keyWithin, below, withins}
+use Rattle.key.specs.Key.{degree, KeySlices, lengths, Sized, below, withins}
 use Rattle.key.proofs.Sized.{degree-some}
 use Rattle.key.proofs.Fine.{below-lt, each-within}
 use Rattle.key.proofs.Checked.{checked}
@@ -52,7 +53,7 @@ module _ (number : ℕ) (key : Key) where
 
   pub verify-fine : (lent : KeySlices) (t q Δ masks α a : List ℕ) → firstOf (verifyRows l key lent t q Δ masks α a) ≡ Done → VerifyFine lent t q Δ masks α a
   verify-fine lent t q Δ masks α a e =
-      let c = checked l key (long (verifyLent len lent t q Δ masks α a)) (keyWithin l lent) (below 1 t) (withins l (q ∷ Δ ∷ masks ∷ α ∷ a ∷ [])) Column e in
+      let c = checked l key (long (verifyLent len lent t q Δ masks α a)) lent (below 1 t) (withins l (q ∷ Δ ∷ masks ∷ α ∷ a ∷ [])) Column e in
       let s = each-long (verifyLent len lent t q Δ masks α a) (c .slices-fine) in
       let f = each-within l (q ∷ Δ ∷ masks ∷ α ∷ a ∷ []) (c .coordinates-fine) in
       record {

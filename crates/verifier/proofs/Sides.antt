@@ -13,8 +13,9 @@ use Rattle.row.specs.Elements.{el, Bits}
 use Rattle.row.specs.Polynomial.{columnValue, checkValue}
 use Rattle.row.specs.Lent.{smallOf, entryOf, bitOf, elementOf}
 use Rattle.key.specs.Key.{degree, KeySlices}
-use Rattle.constraints.specs.Graded.{sigma, eval, pow}
-use Rattle.constraints.specs.GradedLaws.{summed-cong}
+use Rattle.constraints.specs.Graded.{eval}
+use Rattle.field.specs.Sums.{sigma, pow}
+use Rattle.field.specs.SumLaws.{summed-cong}
 use Rattle.constraints.specs.System.{System, value}
 use Rattle.constraints.specs.Slices.{bits, elementAt, elements, systemOf}
 use Rattle.constraints.proofs.Coefficients.{coefficient-vector}

@@ -32,6 +32,6 @@ pub record Complete (l : Level) (key : Key) (lent : KeySlices) (positions u v r 
   pub done : proveOutcome l key lent positions u v r s α t a .0 ≡ Done
   pub accepted : verifyOutcome l key lent (proveOutcome l key lent positions u v r s α t a .1 .0) q Δ masks α (proveOutcome l key lent positions u v r s α t a .1 .1) ≡ Accepted
 
--- past refusals 1 to 7, for positions that solve the key, so that none is a spare code, and an honest verifier
+-- past refusals 1 to 7 and 15, so of a well-formed key, for positions that solve the key, so that none is a spare code, and an honest verifier
 abbrev pub Completeness : Level → Type 0
 Completeness l = (key : Key) (lent : KeySlices) (positions u v r s α t a q Δ masks : List ℕ) → firstOf (rowsTo7 l key lent positions u v r s α t a) ≡ Done → SolvesKey l key lent positions → HonestVerifier l key lent u v r s q Δ masks → Complete l key lent positions u v r s α t a q Δ masks

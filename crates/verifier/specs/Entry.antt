@@ -13,7 +13,7 @@ use Rattle.field.specs.declared.Level.{Level}
 use Rattle.key.specs.declared.Key.{Key}
 use Rattle.key.specs.declared.Lengths.{Lengths}
 use Rattle.key.specs.declared.Code.the-variants.{Column}
-use Rattle.key.specs.Key.{KeySlices, lengths, sizes, keyLent, keyWithin, below, withins, checks}
+use Rattle.key.specs.Key.{KeySlices, lengths, sizes, keyLent, below, withins, checks, Leans}
 use Rattle.constraints.specs.Entry.{system}
 use Rattle.checkzero.specs.Slices.{AcceptsSlices, accepts}
 
@@ -32,7 +32,11 @@ verifyLent len lent t q Δ masks α a =
 module _ (l : Level) (key : Key) where
   -- its refusals, in order
   abbrev pub verifyRows : KeySlices → (t q Δ masks α a : List ℕ) → List (Bool × ℕ)
-  verifyRows lent t q Δ masks α a = sizes l key ++ checks (long (verifyLent (lengths l key) lent t q Δ masks α a)) (keyWithin l lent) (below 1 t) (withins l (q ∷ Δ ∷ masks ∷ α ∷ a ∷ [])) Column
+  verifyRows lent t q Δ masks α a = sizes l key ++ checks l key (long (verifyLent (lengths l key) lent t q Δ masks α a)) lent (below 1 t) (withins l (q ∷ Δ ∷ masks ∷ α ∷ a ∷ [])) Column
+
+  -- past 1 to 4, 15 is the answer exactly when the rows of H lean on each other
+  abbrev pub verifyLeans : KeySlices → (t q Δ masks α a : List ℕ) → (IsFifteen : Type 0) → Type 0
+  verifyLeans lent t q Δ masks α a = Leans l key (long (verifyLent (lengths l key) lent t q Δ masks α a)) lent
 
   unfoldable pub verifyOutcome : KeySlices → (t q Δ masks α a : List ℕ) → Verdict
   verifyOutcome lent t q Δ masks α a = judged (firstOf (verifyRows lent t q Δ masks α a)) (accepts l (system l key lent) t q Δ masks α a)

@@ -4,13 +4,14 @@ ghost use lib.Dec.{eqb};
 ghost use lib.ListN.{length};
 ghost use Rattle.lists.specs.Lent.{long};
 ghost use Rattle.refusal.specs.Answer.{firstOf};
+ghost use Rattle.refusal.specs.Verdict.{turned};
 ghost use Rattle.refusal.specs.declared.Answer.the-variants.{Done};
 ghost use Rattle.refusal.specs.declared.Verdict.the-variants.{Accepted, Rejected};
 ghost use Rattle.field.specs.Level.{FIRST, levelAt};
 ghost use Rattle.key.specs.Key.{Sized, keySlices, lengths};
 ghost use Rattle.constraints.specs.Entry.{system};
 ghost use Rattle.checkzero.specs.Slices.{accepts};
-ghost use Rattle.verifier.specs.Entry.{verifyLent, verifyRows, verifyOutcome, Judges};
+ghost use Rattle.verifier.specs.Entry.{verifyLent, verifyRows, verifyOutcome, verifyLeans, Judges};
 use field::FIRST;
 use folding::values;
 use key::Code;
@@ -69,12 +70,15 @@ fn refused(
     if slices != 0 {
         return Answer::Refused(Refusal::SLICE_LENGTH);
     }
-    let elements = key::excess(h, x, y, FIRST);
+    let contents = key.contents(h, x, y, FIRST);
+    if let Answer::Refused(_) = contents {
+        return contents;
+    }
     let coordinates = field::excess(q, FIRST)
         | (field::excess(delta, FIRST)
             | (field::excess(masks, FIRST)
                 | (field::excess(alpha, FIRST) | field::excess(a, FIRST))));
-    key::contents(elements, key::over(t, 1), coordinates, Code::COLUMN)
+    key::material(key::over(t, 1), coordinates, Code::COLUMN)
 }
 
 // Zero exactly when a at the challenge equals the weighted sum of the values plus the mask sum. The last four slices are room for an
@@ -177,6 +181,7 @@ pub fn verify(
     a: &[u16],
 ) -> Verdict
     ensures outcome { λ o. ⌜ o ≡ verifyOutcome (levelAt FIRST) key (keySlices (now (h .entry)) (now (x .entry)) (now (y .entry))) (now (t .entry)) (now (q .entry)) (now (delta .entry)) (now (masks .entry)) (now (alpha .entry)) (now (a .entry)) ⌝ }
+    ensures leans { λ o. ⌜ verifyLeans (levelAt FIRST) key (keySlices (now (h .entry)) (now (x .entry)) (now (y .entry))) (now (t .entry)) (now (q .entry)) (now (delta .entry)) (now (masks .entry)) (now (alpha .entry)) (now (a .entry)) (o ≡ turned 15) ⌝ }
     ensures judges { λ o. ⌜ Judges (levelAt FIRST) key (keySlices (now (h .entry)) (now (x .entry)) (now (y .entry))) (now (t .entry)) (now (q .entry)) (now (delta .entry)) (now (masks .entry)) (now (alpha .entry)) (now (a .entry)) (o ≡ Accepted) (o ≡ Rejected) ⌝ }
 {
     match refused(key, h, x, y, t, q, delta, masks, alpha, a) {

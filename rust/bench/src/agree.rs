@@ -1,8 +1,11 @@
 //! Whether all implementations answer and write the same, on random inputs and
 //! on some that are refused.
 
-use crate::implementation::{material, written_words, Found, ALL, FILED, KEYED};
-use reference::samples::{Generator, Material, Sample};
+use crate::implementation::{
+    material, written_words, Found, Implementation, ALL, FILED, KEYED, RANK,
+};
+use reference::samples::{Generator, Leaning, Material, Sample};
+use reference::Refusal;
 
 /// Whether all are the same.
 fn same<T: PartialEq>(mut outcomes: impl Iterator<Item = T>) -> bool {
@@ -51,7 +54,75 @@ fn damage(material: &mut Material, generator: &mut Generator) {
     }
 }
 
+/// The implementations that refuse rows that lean on each other: all, but for
+/// another build from before the entry rank.
+fn with_rank() -> impl Iterator<Item = &'static Implementation> {
+    ALL.iter().filter(|one| one.rank.is_some())
+}
+
+/// Whether the rows of H lean on each other, and nothing of n, m and H is
+/// refused before.
+fn leans(Sample { n, m, h, .. }: &Sample) -> bool {
+    let mut matrix = vec![0; h.len()];
+    reference::rank(*n, *m, h, &mut matrix).is_ok_and(|rank| rank < *m)
+}
+
+/// Tries the entry rank, on matrices of all sizes: full ones, sparse ones and
+/// leaning ones, and some that are refused.
+fn ranks(generator: &mut Generator) -> Result<(), String> {
+    for n in 2..=64 {
+        for round in 0..12 {
+            let (mut n, mut m) = (n, 1 + generator.below(n - 1));
+            let mut h = generator.words(m * n);
+            match round {
+                0..=2 => {
+                    let ways: Vec<Leaning> = Leaning::of(m).collect();
+                    ways[round % ways.len()].make(&mut h, n, generator);
+                }
+                3..=5 => {
+                    let all = h.iter_mut();
+                    let gone = all.filter(|_| generator.below(n) > 1);
+                    gone.for_each(|word| *word = 0);
+                }
+                6 => h[generator.below(m * n)] |= 2048,
+                7 => h.truncate(generator.below(m * n)),
+                8 => m = [0, n, usize::MAX][generator.below(3)],
+                9 => n = [0, 1, 65, usize::MAX][generator.below(4)],
+                _ => {}
+            }
+            let matrix = generator.words(h.len() + usize::from(round == 10));
+            let outcomes = with_rank().filter_map(|one| one.rank).map(|entry| {
+                let (mut matrix, mut rank) = (matrix.clone(), 99);
+                let answer = entry(n, m, &h, &mut matrix, &mut rank);
+                (answer, rank, matrix)
+            });
+            if !same(outcomes) {
+                return Err(format!("{RANK} at n = {n}, m = {m}"));
+            }
+        }
+    }
+    Ok(())
+}
+
+/// Tries the entries with a key on keys whose rows lean: all refuse them.
+fn leaning_keys(generator: &mut Generator) -> Result<(), String> {
+    for n in (2..=12).chain([17, 33]) {
+        let m = 1 + generator.below(n - 1);
+        let mut material = material(Sample::solving(n, m, generator));
+        let (bits, words) = (material.t.len(), written_words(&material.sample));
+        for leaning in Leaning::of(m) {
+            material.sample = material.sample.leaning(leaning, generator);
+            let answers = keyed(&material, bits, words, generator)?;
+            if answers != [Refusal::DependentRows.number(); 4] {
+                return Err(format!("leaning rows are taken at n = {n}, m = {m}"));
+            }
+        }
+    }
+    Ok(())
+}
+
 /// Tries the entries with a key, with room for t and for the words of each.
+/// Leaning rows are tried with the implementations that refuse them.
 fn keyed(
     material: &Material,
     bits: usize,
@@ -59,10 +130,12 @@ fn keyed(
     generator: &mut Generator,
 ) -> Result<[u32; 4], String> {
     let mut answers = [0; 4];
+    let leans = leans(&material.sample);
     for (entry, name) in KEYED.iter().enumerate() {
         let t = generator.bits(bits);
         let out = generator.words(words[entry]);
-        let outcomes = ALL.iter().map(|implementation| {
+        let tried = ALL.iter().filter(|one| one.rank.is_some() || !leans);
+        let outcomes = tried.map(|implementation| {
             let (mut t, mut out) = (t.clone(), out.clone());
             let answer = implementation.keyed[entry](material, &mut t, &mut out);
             answers[entry] = answer;
@@ -134,5 +207,7 @@ pub fn agree(file: &[u8], package: &[u8]) -> Result<(), String> {
     let generator = &mut Generator::new(0);
     elements(generator)?;
     keys(generator)?;
+    ranks(generator)?;
+    leaning_keys(generator)?;
     files(file, package, generator)
 }

@@ -1,7 +1,7 @@
 //! The rows: which entries are called with what.
 
 use crate::implementation::{
-    material, written_words, Found, OnBytes, OnElements, OnKey, ALL, FILED, KEYED,
+    material, written_words, Found, OnBytes, OnElements, OnKey, OnMatrix, ALL, FILED, KEYED, RANK,
 };
 use crate::measure::{Calls, Row, Subject};
 use crate::products;
@@ -102,6 +102,25 @@ fn with_key(entry: OnKey, material: &Material, words: usize) -> Calls<'_> {
     })
 }
 
+/// Calls with an H whose rows do not lean on each other.
+fn with_matrix(entry: OnMatrix, material: &Material) -> Calls<'_> {
+    let Sample { n, m, ref h, .. } = material.sample;
+    let mut matrix = vec![0; h.len()];
+    Box::new(move |count| {
+        for _ in 0..count {
+            let mut rank = 0;
+            let answer = entry(
+                n,
+                m,
+                black_box(&h[..]),
+                black_box(&mut matrix[..]),
+                &mut rank,
+            );
+            assert_eq!((answer, rank), (0, m));
+        }
+    })
+}
+
 /// Calls with bytes.
 fn with_bytes(entry: OnBytes, bytes: &[u8]) -> Calls<'_> {
     let mut found = Found::default();
@@ -163,6 +182,22 @@ pub fn rows(inputs: &Inputs) -> Vec<Row<'_>> {
                 calls: calls.collect(),
             });
         }
+    }
+    for material in &inputs.materials {
+        let Sample { n, m, .. } = material.sample;
+        let calls = ALL
+            .iter()
+            .map(|one| one.rank.map(|rank| with_matrix(rank, material)));
+        rows.push(Row {
+            subject: Subject {
+                entry: RANK,
+                sizes: Some((n, m)),
+                form: "",
+                products: None,
+                process: false,
+            },
+            calls: calls.collect(),
+        });
     }
     for (entry, name) in FILED.into_iter().enumerate() {
         let (bytes, form) = match name {

@@ -11,6 +11,9 @@ pub type OnElements = fn(&[u16], &[u16], &mut [u16]) -> u32;
 /// An entry with a key, with the room for t and for what else it writes.
 pub type OnKey = fn(&Material, &mut [u8], &mut [u16]) -> u32;
 
+/// The entry rank: n, m and H, the matrix and the rank that it writes.
+pub type OnMatrix = fn(usize, usize, &[u16], &mut [u16], &mut usize) -> u32;
+
 /// What the entries on bytes write.
 #[derive(Clone, Debug, Default, PartialEq)]
 pub struct Found {
@@ -30,6 +33,9 @@ pub type OnBytes = fn(&[u8], &mut Found) -> usize;
 /// The names of the entries with a key.
 pub const KEYED: [&str; 4] = ["constraints", "values", "prove", "verify"];
 
+/// The name of the entry rank.
+pub const RANK: &str = "rank";
+
 /// The place of prove among them.
 const PROVE: usize = 2;
 
@@ -44,6 +50,9 @@ pub struct Implementation {
     pub sum: OnElements,
     /// The entry product.
     pub product: OnElements,
+    /// The entry rank. Another build may be from before it; then its other
+    /// entries do not refuse rows that lean on each other.
+    pub rank: Option<OnMatrix>,
     /// The entries with a key.
     pub keyed: [OnKey; 4],
     /// The entries on bytes, where it has them.
@@ -99,15 +108,16 @@ macro_rules! filed {
     }};
 }
 
-/// The implementation of a module, with its name, its entries on bytes, and
-/// whether its instructions are counted.
+/// The implementation of a module, with its name, its entry rank, its entries on
+/// bytes, and whether its instructions are counted.
 macro_rules! implementation {
-    ($module:path, $name:literal, $filed:expr, $counted:literal) => {{
+    ($module:path, $name:literal, $rank:expr, $filed:expr, $counted:literal) => {{
         use $module as module;
         Implementation {
             name: $name,
             sum: module::sum,
             product: module::product,
+            rank: $rank,
             keyed: keyed!($module),
             filed: $filed,
             counted: $counted,
@@ -115,13 +125,38 @@ macro_rules! implementation {
     }};
 }
 
+/// The entry rank of another build that has it, as the build script tells.
+#[cfg(all(feature = "other", other_rank))]
+const OTHER_RANK: Option<OnMatrix> = Some(library::other::rank);
+/// The entry rank of another build from before it.
+#[cfg(all(feature = "other", not(other_rank)))]
+const OTHER_RANK: Option<OnMatrix> = None;
+
 /// The implementations, in the order of the columns.
 pub const ALL: &[Implementation] = &[
-    implementation!(library, "library", filed!(library), true),
-    implementation!(packed, "Rust", None, true),
-    implementation!(of_reference, "reference", filed!(of_reference), false),
+    implementation!(
+        library,
+        "library",
+        Some(library::rank),
+        filed!(library),
+        true
+    ),
+    implementation!(packed, "Rust", Some(packed::rank), None, true),
+    implementation!(
+        of_reference,
+        "reference",
+        Some(of_reference::rank),
+        filed!(of_reference),
+        false
+    ),
     #[cfg(feature = "other")]
-    implementation!(library::other, "other", filed!(library::other), true),
+    implementation!(
+        library::other,
+        "other",
+        OTHER_RANK,
+        filed!(library::other),
+        true
+    ),
 ];
 
 /// The place of the library in the order.

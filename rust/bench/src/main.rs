@@ -55,6 +55,7 @@ fn time(
     if !perkcheck.is_file() {
         println!("The program perkcheck is missing: `rt check perkcheck` makes it.\n");
     }
+    table::shares(&measured);
     table::growth(&measured);
     picture.map_or(Ok(()), |path| {
         fs::write(path, svg::picture(&measured)).map_err(|error| format!("{path}: {error}"))

@@ -39,6 +39,11 @@ entries! {
     verify (key) (t: u8, q: u16, delta: u16, masks: u16, alpha: u16, a: u16) () of_verdict;
 }
 
+/// The entry rank.
+pub fn rank(n: usize, m: usize, h: &[u16], matrix: &mut [u16], rank: &mut usize) -> u32 {
+    number(reference::rank(n, m, h, matrix).map(|answered| *rank = answered))
+}
+
 /// Writes what a reader answers.
 fn written(answer: Result<Contents, Refusal>, n: &mut u32, m: &mut u32, serial: &mut u32) -> u32 {
     number(answer.map(|contents| {

@@ -1,7 +1,7 @@
 //! The tables, as Markdown with columns of even width.
 
 use crate::cases::{ONE_PRODUCT, SIZES};
-use crate::implementation::{other_name, ALL, KEYED, LIBRARY, OTHER, REFERENCE, RUST};
+use crate::implementation::{other_name, ALL, KEYED, LIBRARY, OTHER, RANK, REFERENCE, RUST};
 use crate::measure::{Measured, LEAST, TURNS};
 
 /// The ratio of times up to which one build is not called slower than another:
@@ -163,12 +163,57 @@ fn slower(rows: &[Measured]) {
     println!("Rows in which it takes more than {NOISE} of its time: {times}.\n");
 }
 
+/// The sizes at which the time of rank is told as a share of that of verify, and
+/// the most that it shall be.
+const SHARES: [((usize, usize), f64); 2] = [((64, 27), 0.1), ((64, 63), 0.2)];
+
+/// The row of an entry at these sizes.
+fn row_at<'a>(rows: &'a [Measured], entry: &str, sizes: (usize, usize)) -> Option<&'a Measured> {
+    rows.iter()
+        .find(|row| row.subject.entry == entry && row.subject.sizes == Some(sizes))
+}
+
+/// The table of the test of the rows of H, which the entry rank makes alone: its
+/// time as a share of that of verify, which makes it too.
+pub fn shares(rows: &[Measured]) {
+    println!("## The test of the rows of H\n");
+    println!("The time of `rank` as a share of that of `verify`, which tests the rows of H too, and the share that is aimed at.\n");
+    let heading = [
+        "(n,m)",
+        "implementation",
+        "`rank` µs",
+        "`verify` µs",
+        "share",
+        "at most",
+    ];
+    let percent = |share: f64| format!("{:.1} %", 100.0 * share);
+    let mut cells = Vec::new();
+    for (sizes, most) in SHARES {
+        let [rank, verify] = [RANK, "verify"].map(|entry| row_at(rows, entry, sizes));
+        let told = ALL
+            .iter()
+            .enumerate()
+            .filter(|(_, one)| one.rank.is_some() && one.counted);
+        for (one, implementation) in told {
+            let [rank, verify] = [rank, verify].map(|row| row.and_then(|row| row.time(one)));
+            cells.push(vec![
+                format!("({},{})", sizes.0, sizes.1),
+                implementation.name.to_string(),
+                microseconds(rank),
+                microseconds(verify),
+                shown(ratio(rank, verify), percent),
+                format!("{:.0} %", 100.0 * most),
+            ]);
+        }
+    }
+    print(heading.map(String::from).to_vec(), cells);
+    println!();
+}
+
 /// The rows of an entry that grow with n.
 pub fn growing<'a>(rows: &'a [Measured], entry: &'a str) -> impl Iterator<Item = &'a Measured> {
-    SIZES[..4].iter().filter_map(move |&sizes| {
-        rows.iter()
-            .find(|row| row.subject.entry == entry && row.subject.sizes == Some(sizes))
-    })
+    let sizes = SIZES[..4].iter();
+    sizes.filter_map(move |&sizes| row_at(rows, entry, sizes))
 }
 
 /// The table of growth with n.
@@ -186,7 +231,7 @@ pub fn growth(rows: &[Measured]) {
         "ns per product, Rust",
     ];
     let mut cells = Vec::new();
-    for entry in KEYED {
+    for entry in KEYED.into_iter().chain([RANK]) {
         let Some(first) = growing(rows, entry).next() else {
             continue;
         };

@@ -100,6 +100,15 @@ macro_rules! build {
             product = perk_product;
         }
 
+        /// The entry rank: writes the cleared form and the rank.
+        pub fn rank(n: usize, m: usize, h: &[u16], matrix: &mut [u16], rank: &mut usize) -> u32 {
+            let (h, h_len) = (h.as_ptr(), h.len());
+            let (matrix, matrix_len) = (matrix.as_mut_ptr(), matrix.len());
+            // SAFETY: the slices are valid for their lengths, and neither the
+            // matrix nor the number overlaps another.
+            unsafe { c::perk_rank(n, m, h, h_len, matrix, matrix_len, rank) }
+        }
+
         on_keys! {
             /// The entry constraints.
             constraints = perk_constraints,

@@ -1,16 +1,17 @@
 //! The program perkcheck, run with files on a pipe that are written in pieces
 //! of random sizes.
 
-use crate::entries::check::{changeable, changed, honest, Check};
+use crate::entries::check::{changeable, changed, honest, leaning_fields, Check};
 use crate::entries::files::damage::{damaged_file, Pool};
 use crate::entries::files::faults::{faulty, spots};
 use crate::entries::files::fields::{any_serial, serial_field, serials_about_powers, set_serial};
 use crate::entries::files::REFUSALS;
-use crate::entries::keyed;
+use crate::entries::{keyed, verify};
 use crate::kinds::Kind;
 use reference::package::join;
 use reference::perkcheck::LIMIT;
-use reference::samples::Generator;
+use reference::samples::{Generator, Leaning};
+use reference::Refusal;
 use std::io::{ErrorKind, Read, Write};
 use std::path::Path;
 use std::process::{Child, ChildStdin, Command, Stdio};
@@ -21,10 +22,14 @@ use std::time::Duration;
 /// The name of the program.
 pub const NAME: &str = "perkcheck";
 
+/// The kind of line of a refusal.
+pub fn refused(refusal: Refusal) -> String {
+    format!("refused {}", refusal.number())
+}
+
 /// The kinds of lines, each of which must be reached.
 pub fn lines() -> Vec<String> {
-    let refused = REFUSALS.iter();
-    let refused = refused.map(|refusal| format!("refused {}", refusal.number()));
+    let refused = REFUSALS.iter().map(|&refusal| refused(refusal));
     let verdicts = ["accepted", "rejected"].map(str::to_string);
     verdicts.into_iter().chain(refused).collect()
 }
@@ -60,7 +65,7 @@ pub struct Group {
 }
 
 /// The groups of files.
-pub const GROUPS: &[Group] = &[HONEST, CHANGED, PREFIXES, FAULTS, DAMAGED, LENGTHS];
+pub const GROUPS: &[Group] = &[HONEST, CHANGED, LEANING, PREFIXES, FAULTS, DAMAGED, LENGTHS];
 
 /// A file after whose last byte the pipe is closed.
 fn closed(bytes: Vec<u8>) -> File {
@@ -103,6 +108,21 @@ const CHANGED: Group = Group {
     },
 };
 
+const LEANING: Group = Group {
+    name: "n to 9 and larger, proofs that hold, rows of H that lean",
+    any_rows: true,
+    files: |generator, each| {
+        for n in (2..=9).chain([17, 64]) {
+            let m = keyed::some_m(n, generator)[n % 3];
+            for leaning in Leaning::of(m) {
+                let sample = verify::sample(n, m, Kind::Random, generator);
+                let fields = leaning_fields(&sample.leaning(leaning, generator));
+                each(generator, closed(join(&fields)));
+            }
+        }
+    },
+};
+
 const PREFIXES: Group = Group {
     name: "every prefix of a file, n = 2",
     any_rows: false,
@@ -116,7 +136,7 @@ const PREFIXES: Group = Group {
 
 const FAULTS: Group = Group {
     name: "one fault at each place of each field",
-    any_rows: false,
+    any_rows: true,
     files: |generator, each| {
         for (n, m) in [(2, 1), (3, 2), (6, 3), (64, 63)] {
             let fields = honest(n, m, Kind::Random, generator);

@@ -44,6 +44,8 @@ pub const A: &str = "a";
 pub const POLYNOMIALS: &str = "polynomials";
 /// The n + m values.
 pub const VALUES: &str = "values";
+/// The matrix that rank clears.
+pub const MATRIX: &str = "matrix";
 
 /// The slices of a key, in the order in which they are lent.
 pub const KEY: &[&str] = &[H, X, Y];
@@ -66,6 +68,7 @@ const SLICES: &[Slice] = &[
     slice(A, Elements::Coordinates, Sizes::proof_words),
     slice(POLYNOMIALS, Elements::Coordinates, Sizes::polynomial_words),
     slice(VALUES, Elements::Coordinates, Sizes::weight_words),
+    slice(MATRIX, Elements::Key, Sizes::h_words),
 ];
 
 /// What the elements of a slice are.

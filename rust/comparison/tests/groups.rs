@@ -4,7 +4,7 @@
 mod common;
 
 use common::{case, entry, passes, right, ALL, INPUT};
-use comparison::case::{decided, Case, Entry, Group, Least, Rows, Table};
+use comparison::case::{decided, Call, Case, Entry, Group, Least, Rows, Table};
 use comparison::entries::check;
 use comparison::entries::files::damage::harmless;
 use comparison::entries::files::faults::{faulty, other_length, spots};
@@ -155,13 +155,13 @@ fn with_equal_rows(generator: &mut Generator) -> Case {
     let mut case = keyed::of_sizes::<constraints::Constraints>(sizes, generator);
     let h = case.inputs[H].words_mut();
     h.copy_within(..5, 5);
-    case.answering(Some(0))
+    case.answering(Some(15))
 }
 
-/// Constraints with cases of this group alone.
+/// Constraints with cases of this group alone, one of which has 15.
 fn constraints_with(groups: fn() -> Vec<Group>) -> Entry {
     Entry {
-        refusals: &[],
+        refusals: &[Refusal::DependentRows],
         table: None,
         least: Vec::new,
         groups,
@@ -173,10 +173,40 @@ fn constraints_with(groups: fn() -> Vec<Group>) -> Entry {
 fn rows_that_depend_on_each_other() {
     const EQUAL: Group = Group::new("equal rows", |generator, each| {
         each(with_equal_rows(generator));
+        let sizes = keyed::sizes(5, 2);
+        let case = keyed::of_sizes::<constraints::Constraints>(sizes, generator);
+        each(case.answering(Some(0)));
     });
     assert!(!passes(&constraints_with(|| vec![EQUAL]), None));
     let any_rows = constraints_with(|| vec![EQUAL.with_any_rows()]);
     assert!(passes(&any_rows, None));
+}
+
+// The library and the reference agree, and both are wrong.
+#[test]
+fn fifteen_is_judged_by_another_method() {
+    const CASES: Group = Group::new("cases", |generator, each| {
+        each(with_equal_rows(generator).answering(None));
+        for _ in 0..4 {
+            let sizes = keyed::sizes(5, 2);
+            let case = keyed::of_sizes::<constraints::Constraints>(sizes, generator);
+            each(case);
+        }
+    });
+    let both = |call: Call| Entry {
+        library: call,
+        reference: call,
+        ..constraints_with(|| vec![CASES.with_any_rows()])
+    };
+    let right = constraints::CONSTRAINTS.reference;
+    assert!(passes(&both(right), None));
+    // None is refused, all are, and every other one.
+    assert!(!passes(&both(|_, _| 0), None));
+    assert!(!passes(&both(|_, _| 15), None));
+    assert!(!passes(
+        &both(|taken, _| if taken.words(H)[0] % 2 == 0 { 15 } else { 0 }),
+        None
+    ));
 }
 
 #[test]

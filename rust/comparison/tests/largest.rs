@@ -5,7 +5,7 @@
 mod common;
 
 use common::{passes, with_library};
-use comparison::case::{Call, Entry, Group, Taken};
+use comparison::case::{Call, Group, Taken};
 use comparison::entries::constraints::{Constraints, CONSTRAINTS};
 use comparison::entries::prove::{Prove, PROVE};
 use comparison::entries::rounds::{at_largest, InRounds};

@@ -2,7 +2,9 @@
 //! library.
 
 use comparison::case::Entry;
-use comparison::entries::{check, constraints, field, package_field, prove, readers, values, ALL};
+use comparison::entries::{
+    check, constraints, field, package_field, prove, rank, readers, values, ALL,
+};
 use comparison::run::Run;
 use comparison::vectors::{compare, directory, names, Outcome, Setting};
 use reference::samples::Generator;
@@ -157,6 +159,8 @@ const INPUTS: &[&str] = &[
     "alpha",
     "delta",
     "wrong_positions",
+    "leaning_h",
+    "leaning_y",
 ];
 
 #[test]
@@ -180,6 +184,45 @@ fn every_word_altered() {
                 assert!(named, "{name}, line {}, {line}: {found}", index + 1);
             }
         }
+    }
+}
+
+#[test]
+fn every_word_of_ranks_altered() {
+    let name = "rank.txt";
+    // The first matrices, and all refused calls.
+    let content = text(name);
+    let refused = content.find("refused ").expect("refused calls");
+    let first = content.match_indices("case ").nth(12).expect("a case").0;
+    let content = [&content[..first], &content[refused..]].concat();
+    assert_eq!(difference(name, &content), None);
+    let mut words_altered = 0;
+    for (index, line) in content.lines().enumerate() {
+        let words: Vec<&str> = line.split(' ').collect();
+        // Names are free, and a refused call may be refused with other words.
+        let free = ["case", "refused", "h_words"].contains(&words[0]);
+        let of_refused = index > content[..first].lines().count();
+        for word in (1..words.len()).filter(|_| !free) {
+            let other = with_line(&content, index, &altered(line, word));
+            let found = difference(name, &other);
+            if of_refused && words[0] != "answer" {
+                continue;
+            }
+            assert!(found.is_some(), "line {}: {line}", index + 1);
+            words_altered += 1;
+        }
+    }
+    assert!(words_altered > 100, "{words_altered}");
+    // Parts that are left out, and others.
+    let whole = text(name);
+    for other in [
+        &whole[..whole.find("refused ").expect("refused calls")],
+        &whole[whole.find("refused ").expect("refused calls")..],
+        &whole[..whole.rfind("answer").expect("an answer")],
+        "",
+        "case one\n",
+    ] {
+        assert!(difference(name, other).is_some());
     }
 }
 
@@ -298,6 +341,8 @@ fn wrong_outputs() {
         changed!(prove::PROVE, "t"),
         changed!(prove::PROVE, "a"),
         changed!(values::VALUES, "values"),
+        changed!(rank::RANK, "matrix"),
+        changed!(rank::RANK, "rank"),
         changed!(readers::READ_PACKAGE, "n"),
         changed!(readers::READ_PACKAGE, "m"),
         changed!(readers::READ_PACKAGE, "serial"),

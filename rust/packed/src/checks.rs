@@ -1,8 +1,10 @@
 //! The refusals of the entries, with their numbers in C.
 
 use crate::element::COORDINATES;
+use crate::elimination::leaning;
 use crate::rows::Within;
-use reference::{Key, Refusal};
+use reference::key::Sizes;
+use reference::{lent, Key, Refusal};
 
 /// The largest element of F, which has all its digits set.
 const LIMIT: u16 = 2047;
@@ -72,12 +74,20 @@ pub struct Slices<'a> {
     pub columns_alone: bool,
 }
 
-/// The refusals 1 to 7 and 16, and the key where none applies.
+/// The refusals 1 to 4 of the entry rank.
+pub fn ranked(n: usize, m: usize, h: &[u16], matrix: &[u16]) -> Result<(), Refusal> {
+    let sizes = Sizes::judged(n, m)?;
+    sizes.judge_lengths(&lent![h, matrix])?;
+    unless(above(h), Refusal::KeyElement)
+}
+
+/// The refusals 1 to 7, 15 and 16, and the key where none applies.
 pub fn keyed<'a>(key: Key<'a>, slices: Slices) -> Result<Within<'a>, Refusal> {
     let sizes = key.sizes()?;
     key.judge_lengths(sizes, slices.lent)?;
     let mut words = [key.h, key.x, key.y].into_iter();
     unless(words.any(above), Refusal::KeyElement)?;
+    unless(leaning(key.h, sizes.n), Refusal::DependentRows)?;
     unless(above_1(slices.bits), Refusal::Bit)?;
     let mut elements = slices.elements.iter();
     unless(elements.any(|words| above(words)), Refusal::Coordinate)?;

@@ -1,7 +1,8 @@
 //! The entries.
 
-use crate::checks::{elements, keyed, Slices};
+use crate::checks::{elements, keyed, ranked, Slices};
 use crate::element::{load, plus, store, Element, Multiples, ZERO};
+use crate::elimination::eliminate;
 use crate::fold;
 use crate::rows::{COEFFICIENTS, POLYNOMIALS};
 use reference::{lent, Key, Refusal};
@@ -22,6 +23,14 @@ pub fn sum(a: &[u16], b: &[u16], out: &mut [u16]) -> u32 {
 pub fn product(a: &[u16], b: &[u16], out: &mut [u16]) -> u32 {
     number(elements(a, b, out).map(|(a, b, out)| {
         store(&[Multiples::of(load(b, 0)).times(&load(a, 0))], out);
+    }))
+}
+
+/// The entry rank; the rank is written too.
+pub fn rank(n: usize, m: usize, h: &[u16], matrix: &mut [u16], rank: &mut usize) -> u32 {
+    number(ranked(n, m, h, matrix).map(|()| {
+        matrix.copy_from_slice(h);
+        *rank = eliminate(matrix, n);
     }))
 }
 

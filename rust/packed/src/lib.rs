@@ -10,8 +10,9 @@
 
 mod checks;
 mod element;
+mod elimination;
 mod entries;
 mod fold;
 mod rows;
 
-pub use entries::{constraints, product, prove, sum, values, verify};
+pub use entries::{constraints, product, prove, rank, sum, values, verify};

@@ -27,6 +27,17 @@ macro_rules! declarations {
                 out_len: usize,
             ) -> u32;
 
+            #[link_name = concat!($prefix, "perk_rank")]
+            pub fn perk_rank(
+                n: usize,
+                m: usize,
+                h: *const u16,
+                h_len: usize,
+                matrix: *mut u16,
+                matrix_len: usize,
+                rank: *mut usize,
+            ) -> u32;
+
             #[link_name = concat!($prefix, "perk_constraints")]
             pub fn perk_constraints(
                 n: usize,

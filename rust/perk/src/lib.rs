@@ -29,6 +29,15 @@
 //! the target y. A key without a target has m zeros as y. Positions below n are
 //! columns; n to 2^d - 1 are spare codes, which name no entry of x.
 //!
+//! # Rows that lean
+//!
+//! The rows of H lean on each other where some coefficients from F, not all zero,
+//! combine them to zero: one is a multiple of another, or a sum of multiples of
+//! others, or all zero. Such a key asks less of an order than it seems to, and every
+//! function that takes a key, the readers included, refuses it with
+//! [`Refusal::DependentRows`]. [`rank`], for an office's own use, says how many
+//! rows there are that do not lean.
+//!
 //! # Refusals and verdicts
 //!
 //! A function refuses with the first [`Refusal`] that applies, in the order in
@@ -85,6 +94,29 @@
 //! assert_eq!(prove([2, 0, 2]), Err(Refusal::TopCoefficient));
 //! assert_eq!(prove([2, 0, 3]), Err(Refusal::SpareCode));
 //! assert_eq!(prove([2, 3, 4]), Err(Refusal::Position));
+//! ```
+//!
+//! To test the rows of a key. Here the second row is first 2 times the first, in F,
+//! so that the rank is 1 and the row is cleared to zeros; with 7 at its end it no
+//! longer leans:
+//!
+//! ```
+//! use perk::{Key, Prover, Refusal, WORDS};
+//!
+//! # fn main() -> Result<(), perk::Refusal> {
+//! let mut matrix = [0; 6];
+//! assert_eq!(perk::rank(3, 2, &[1024, 1, 3, 5, 2, 6], &mut matrix)?, 1);
+//! assert_eq!(matrix, [1024, 1, 3, 0, 0, 0]);
+//! assert_eq!(perk::rank(3, 2, &[1024, 1, 3, 5, 2, 7], &mut matrix)?, 2);
+//! assert_eq!(matrix, [1024, 1, 3, 0, 0, 1]);
+//!
+//! // the office need not ask: no function takes the first key
+//! let key = Key { n: 3, m: 2, h: &[1024, 1, 3, 5, 2, 6], x: &[1, 2, 3], y: &[0, 0] };
+//! let prover = Prover { positions: &[0, 1, 2], u: &[0; 6], v: &[0; WORDS * 6] };
+//! let answer = perk::constraints(key, prover, &mut [0; 6], &mut [0; WORDS * 5 * 3]);
+//! assert_eq!(answer, Err(Refusal::DependentRows));
+//! # Ok(())
+//! # }
 //! ```
 //!
 //! To verify the proof of key A, with the challenge 2 and q = u delta + v:
@@ -195,14 +227,17 @@ pub const fn digits(n: usize) -> usize {
     (usize::BITS - n.saturating_sub(1).leading_zeros()) as usize
 }
 
-/// A key. It is taken when it is well formed, whether or not it is hard to solve.
+/// A key. It is taken when it is well formed, whether or not it is hard to solve:
+/// when its sizes, lengths and elements are as stated here, and the rows of H do
+/// not lean on each other.
 #[derive(Clone, Copy, Debug, PartialEq, Eq)]
 pub struct Key<'a> {
     /// The number of positions, 2 to 64.
     pub n: usize,
     /// The number of rows of H, 1 to n - 1.
     pub m: usize,
-    /// H: m n words, m rows of n elements of F, row after row.
+    /// H: m n words, m rows of n elements of F, row after row. No coefficients
+    /// from F, not all zero, combine the rows to zero.
     pub h: &'a [u16],
     /// x: n words, n elements of F.
     pub x: &'a [u16],
@@ -255,6 +290,39 @@ pub fn product(a: &[u16], b: &[u16], out: &mut [u16]) -> Result<(), Refusal> {
     refusal::answer(call!(perk_product()(a, b)(out)))
 }
 
+/// The rank of H, 0 to m, by elimination, for an office that is handed a key.
+///
+/// - `h`: H, m n words.
+/// - `matrix`: m n words, written: the cleared form of H.
+///
+/// `matrix` starts as a copy of H, and all its rows are unused. For each column,
+/// lowest first, the lowest-numbered unused row whose entry there is not zero is
+/// taken, and multiples of it are added to the unused rows below it, so that
+/// their entries there become zero. The row that is taken counts as used, and
+/// used rows keep their entries. No rows change places. The rank is the number of
+/// rows that were taken, and the others end as zeros.
+///
+/// Proved besides: the rank is below m exactly when some coefficients from F, not
+/// all zero, combine the rows of H to zero. Such a key asks less of an
+/// order than it seems to. It is no refusal here, but every function that takes a key
+/// refuses it with [`Refusal::DependentRows`].
+///
+/// # Errors
+///
+/// In this order: [`Refusal::SizeN`], [`Refusal::SizeM`],
+/// [`Refusal::SliceLength`] (`h`, `matrix`), [`Refusal::KeyElement`] (`h`). Then
+/// `matrix` keeps its content.
+pub fn rank(n: usize, m: usize, h: &[u16], matrix: &mut [u16]) -> Result<usize, Refusal> {
+    let mut rank = 0;
+    let (h, h_len) = (h.as_ptr(), h.len());
+    let (matrix, matrix_len) = (matrix.as_mut_ptr(), matrix.len());
+    // SAFETY: both pointers stand with the lengths of their slices, so they name
+    // aligned memory that is valid to read and, of `matrix`, to write. `matrix` and
+    // `rank` are exclusive borrows, so neither overlaps the other or `h`.
+    let number = unsafe { c::perk_rank(n, m, h, h_len, matrix, matrix_len, &mut rank) };
+    refusal::answer(number).map(|()| rank)
+}
+
 /// Writes the masked witness and the n + m constraint polynomials of a key.
 ///
 /// - `t`: n d bytes, written: digit k of position i, highest first, exclusive-or
@@ -277,8 +345,8 @@ pub fn product(a: &[u16], b: &[u16], out: &mut [u16]) -> Result<(), Refusal> {
 ///
 /// In this order: [`Refusal::SizeN`], [`Refusal::SizeM`],
 /// [`Refusal::SliceLength`] (all eight slices), [`Refusal::KeyElement`] (`h`,
-/// `x`, `y`), [`Refusal::Bit`] (`u`), [`Refusal::Coordinate`] (`v`),
-/// [`Refusal::Position`].
+/// `x`, `y`), [`Refusal::DependentRows`] (`h`), [`Refusal::Bit`] (`u`),
+/// [`Refusal::Coordinate`] (`v`), [`Refusal::Position`].
 pub fn constraints(
     key: Key<'_>,
     prover: Prover<'_>,
@@ -300,7 +368,8 @@ pub fn constraints(
 ///
 /// In this order: [`Refusal::SizeN`], [`Refusal::SizeM`],
 /// [`Refusal::SliceLength`] (all seven slices), [`Refusal::KeyElement`] (`h`,
-/// `x`, `y`), [`Refusal::Bit`] (`t`), [`Refusal::Coordinate`] (`q`, `delta`).
+/// `x`, `y`), [`Refusal::DependentRows`] (`h`), [`Refusal::Bit`] (`t`),
+/// [`Refusal::Coordinate`] (`q`, `delta`).
 pub fn values(
     key: Key<'_>,
     t: &[u8],
@@ -336,10 +405,11 @@ pub fn values(
 ///
 /// In this order: [`Refusal::SizeN`], [`Refusal::SizeM`],
 /// [`Refusal::SliceLength`] (all eleven slices), [`Refusal::KeyElement`] (`h`,
-/// `x`, `y`), [`Refusal::Bit`] (`u`), [`Refusal::Coordinate`] (`v`, `r`, `s`,
-/// `alpha`), [`Refusal::Position`], wherever among spare codes such a position
-/// stands, [`Refusal::SpareCode`], and then [`Refusal::TopCoefficient`], found
-/// before anything is written, whatever the weights are.
+/// `x`, `y`), [`Refusal::DependentRows`] (`h`), [`Refusal::Bit`] (`u`),
+/// [`Refusal::Coordinate`] (`v`, `r`, `s`, `alpha`), [`Refusal::Position`],
+/// wherever among spare codes such a position stands, [`Refusal::SpareCode`], and
+/// then [`Refusal::TopCoefficient`], found before anything is written, whatever
+/// the weights are.
 pub fn prove(
     key: Key<'_>,
     prover: Prover<'_>,
@@ -375,8 +445,8 @@ pub fn prove(
 ///
 /// In this order: [`Refusal::SizeN`], [`Refusal::SizeM`],
 /// [`Refusal::SliceLength`] (all nine slices), [`Refusal::KeyElement`] (`h`,
-/// `x`, `y`), [`Refusal::Bit`] (`t`), [`Refusal::Coordinate`] (`q`, `delta`,
-/// `masks`, `alpha`, `a`).
+/// `x`, `y`), [`Refusal::DependentRows`] (`h`), [`Refusal::Bit`] (`t`),
+/// [`Refusal::Coordinate`] (`q`, `delta`, `masks`, `alpha`, `a`).
 pub fn verify(
     key: Key<'_>,
     t: &[u8],

@@ -71,6 +71,11 @@ fn read(reader: Reader, bytes: &[u8]) -> Result<Contents, Refusal> {
 ///
 /// After the last field [`Refusal::BytesFollow`]. Field 04 is read where the byte
 /// after 03 is 04, and otherwise 05 comes next.
+///
+/// [`Refusal::DependentRows`], where the rows of H lean on each other, comes when
+/// the key has been read as a whole: after all refusals of 04 where the byte after
+/// 03 is 04, be it the last one, and otherwise, also where the bytes end there,
+/// directly after those of 03.
 pub fn read_package(bytes: &[u8]) -> Result<Contents, Refusal> {
     read(c::perk_read_package, bytes)
 }
@@ -114,8 +119,8 @@ pub fn package_of(check_file: &[u8]) -> Result<&[u8], Refusal> {
 }
 
 /// The content of the field with this tag in a package: the caller's own bytes.
-/// It is empty for a package that [`read_package`] refuses, and for a tag that the
-/// package does not have, as 04 where y is all zero; no field of a package is
+/// It is empty for a package that [`read_package`] refuses, as where the rows of H
+/// lean on each other, and for a tag that the package does not have, as 04 where y is all zero; no field of a package is
 /// empty. It tells no refusal.
 ///
 /// A check file is no package; [`package_of`] finds the one that it begins with.

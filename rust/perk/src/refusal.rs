@@ -40,6 +40,9 @@ pub enum Refusal {
     BytesFollow = 12,
     /// 14: the field 04 of a file is present, and all its elements are zero.
     ZeroTarget = 14,
+    /// 15: some coefficients from F, not all zero, combine the rows of H to zero:
+    /// the rows lean on each other. [`rank`](crate::rank) does not refuse them.
+    DependentRows = 15,
     /// 16: a position is a spare code, n to 2^d - 1, which names no column, and
     /// none is 2^d or more. Of [`prove`](crate::prove) alone;
     /// [`constraints`](crate::constraints) takes spare codes.
@@ -50,7 +53,7 @@ pub enum Refusal {
 
 impl Refusal {
     /// All refusals, in the order of their numbers.
-    pub const ALL: [Refusal; 15] = [
+    pub const ALL: [Refusal; 16] = [
         Refusal::SizeN,
         Refusal::SizeM,
         Refusal::SliceLength,
@@ -64,11 +67,12 @@ impl Refusal {
         Refusal::FieldLength,
         Refusal::BytesFollow,
         Refusal::ZeroTarget,
+        Refusal::DependentRows,
         Refusal::SpareCode,
         Refusal::LongSerial,
     ];
 
-    /// Its number, 1 to 12, 14, 16 or 19, which the C function returns.
+    /// Its number, 1 to 12, 14, 15, 16 or 19, which the C function returns.
     pub const fn number(self) -> u32 {
         self as u32
     }
@@ -105,6 +109,9 @@ impl fmt::Display for Refusal {
             Refusal::FieldLength => "a field's length is not one stated for it",
             Refusal::BytesFollow => "bytes follow the last field",
             Refusal::ZeroTarget => "field 04 is present and all its elements are zero",
+            Refusal::DependentRows => {
+                "some coefficients from F, not all zero, combine the rows of H to zero"
+            }
             Refusal::SpareCode => "a position is a spare code, n to 2^d - 1, which names no column",
             Refusal::LongSerial => "a serial of four bytes is below 65536, so that it fits two",
         })

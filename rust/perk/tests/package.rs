@@ -416,6 +416,104 @@ fn two_elements_of_a_target() {
     }
 }
 
+/// Key A's H as the only row that leans: zeros.
+const LEANING: (u8, &str) = (0x02, "02 0004 0000 0000");
+
+// Directly after the field of x where no y follows.
+#[test]
+fn rows_that_lean_without_a_target() {
+    refused(&[LEANING], 15);
+    // before every fault of a later field, and before bytes that follow
+    for later in [
+        "ff 0002 0007",
+        "05 0003 0007",
+        "05 0004 0000 0007",
+        "",
+        "05",
+    ] {
+        refused(&[LEANING, (0x05, later)], 15);
+    }
+    refused(&[LEANING, (0x06, "06 0002 0201")], 15);
+    refused(&[LEANING, (0x07, "07 0018 0800 0..")], 15);
+    refused(&[LEANING, (0x14, "14 0048 0800 0.. 0..")], 15);
+    package_refused(&[&package(&[LEANING])[..], &[0]].concat(), 15);
+    check_file_refused(&[&check_file(&[LEANING])[..], &[0]].concat(), 15);
+    package_refused(&check_file(&[LEANING]), 15);
+    check_file_refused(&package(&[LEANING]), 15);
+    // after every fault of the fields 01 to 03
+    refused(&[LEANING, (0x01, "01 0002 0101")], 1);
+    refused(&[LEANING, (0x01, "01 0002 0202")], 2);
+    refused(&[LEANING, (0x03, "03 0004 0001 0800")], 4);
+    refused(&[LEANING, (0x03, "ff 0004 0001 0002")], 10);
+    refused(&[LEANING, (0x03, "03 0005 0001 0002")], 11);
+    refused(&[(0x02, "02 0004 0000 0800")], 4);
+    // where the file ends after x, and where other bytes than 04 follow
+    let start = joined(|tag| tag < 0x05, &[LEANING]);
+    for len in 0..start.len() {
+        package_refused(&start[..len], 9);
+        check_file_refused(&start[..len], 9);
+    }
+    for after in ["", "00", "05", "03 00", "ff ff ff"] {
+        package_refused(&[start.clone(), bytes(after)].concat(), 15);
+        check_file_refused(&[start.clone(), bytes(after)].concat(), 15);
+    }
+}
+
+// After all checks of y where the byte after x is its tag.
+#[test]
+fn rows_that_lean_with_a_target() {
+    let start = joined(|tag| tag < 0x05, &[LEANING]);
+    let y = bytes("04 0002 0005");
+    for len in 1..y.len() {
+        package_refused(&[&start[..], &y[..len]].concat(), 9);
+        check_file_refused(&[&start[..], &y[..len]].concat(), 9);
+    }
+    for (y, number) in [
+        ("04 0002 0005", 15),
+        ("04 0002 0000", 14),
+        ("04 0002 0800", 4),
+        ("04 0004 0005 0005", 11),
+        ("04 0000", 11),
+        ("04 ffff", 11),
+    ] {
+        for after in ["", "00", "04 0002 0005", "ff ff ff"] {
+            let bytes = [start.clone(), bytes(y), bytes(after)].concat();
+            package_refused(&bytes, number);
+            check_file_refused(&bytes, number);
+        }
+        let x = x_and(y);
+        refused(&with_target(&x, &[LEANING]), number);
+    }
+}
+
+// H of n = 3, m = 2: the second row is 2 times the first, a unit row, or zero.
+#[test]
+fn two_rows_in_a_file() {
+    let read = |second: &str| {
+        let h = format!("02 000c 0400 0001 0003 {second}");
+        let fields = [
+            "01 0002 0302",
+            &h,
+            "03 0006 0000 0100 0002",
+            "05 0002 0007",
+            "06 0006 000000000000",
+            "07 0030 0.. 0.. 00000000",
+        ];
+        let package = fields.map(bytes).concat();
+        let refusal = read_package(&package).map_err(Refusal::number).err();
+        for (tag, length) in [(0x01, 2), (0x02, 12), (0x06, 6)] {
+            let length = if refusal.is_none() { length } else { 0 };
+            assert_eq!(field(&package, tag).len(), length);
+        }
+        refusal
+    };
+    assert_eq!(read("0005 0002 0007"), None);
+    assert_eq!(read("0000 0000 0001"), None);
+    assert_eq!(read("0005 0002 0006"), Some(15));
+    assert_eq!(read("0400 0001 0003"), Some(15));
+    assert_eq!(read("0000 0000 0000"), Some(15));
+}
+
 #[test]
 fn a_file_that_ends_early() {
     package_refused(&[], 9);

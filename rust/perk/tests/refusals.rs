@@ -63,9 +63,10 @@ const SIZES: [(u32, Fault); 8] = [
     (1, |case| case.n = usize::MAX),
 ];
 
-/// The faults of a key.
+/// The faults of a key. Its one row leans where it is all zero.
 fn of_key() -> Vec<(u32, Fault)> {
     [
+        &[(15, (|case| case.h.fill(0)) as Fault)],
         &SIZES[..],
         &lengths![h x y],
         &elements![4, 2048, h x y],
@@ -80,7 +81,7 @@ fn entries() -> [Entry; 4] {
         Entry {
             name: "constraints",
             call: Case::constraints,
-            order: &[1, 2, 3, 4, 5, 6, 7],
+            order: &[1, 2, 3, 4, 15, 5, 6, 7],
             faults: [
                 &elements![7, 4, positions][..],
                 &elements![7, 255, positions],
@@ -94,7 +95,7 @@ fn entries() -> [Entry; 4] {
         Entry {
             name: "values",
             call: Case::values,
-            order: &[1, 2, 3, 4, 5, 6],
+            order: &[1, 2, 3, 4, 15, 5, 6],
             faults: [
                 &elements![6, 2048, q delta][..],
                 &elements![5, 2, t],
@@ -106,7 +107,7 @@ fn entries() -> [Entry; 4] {
         Entry {
             name: "prove",
             call: Case::prove,
-            order: &[1, 2, 3, 4, 5, 6, 7, 16, 8],
+            order: &[1, 2, 3, 4, 15, 5, 6, 7, 16, 8],
             faults: [
                 &[
                     (8, (|case| case.positions = vec![1, 1, 1]) as Fault),
@@ -126,7 +127,7 @@ fn entries() -> [Entry; 4] {
         Entry {
             name: "verify",
             call: |case| case.verify().map(|_| ()),
-            order: &[1, 2, 3, 4, 5, 6],
+            order: &[1, 2, 3, 4, 15, 5, 6],
             faults: [
                 &elements![6, 2048, q delta masks alpha a][..],
                 &elements![5, 2, t],
@@ -229,7 +230,10 @@ fn names() {
 #[test]
 fn numbers_and_words() {
     let numbers = Refusal::ALL.map(Refusal::number);
-    assert_eq!(numbers, [1, 2, 3, 4, 5, 6, 7, 8, 9, 10, 11, 12, 14, 16, 19]);
+    assert_eq!(
+        numbers,
+        [1, 2, 3, 4, 5, 6, 7, 8, 9, 10, 11, 12, 14, 15, 16, 19]
+    );
     let error: &dyn std::error::Error = &Refusal::Position;
     assert_eq!(error.to_string(), "a position is 2^d or more");
     let mut texts: Vec<String> = Refusal::ALL.iter().map(Refusal::to_string).collect();

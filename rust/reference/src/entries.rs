@@ -4,11 +4,13 @@
 
 use crate::check_zero;
 use crate::constraint;
-use crate::key::{bits, elements_of_k, judge_columns, rows, witness, Key};
+use crate::elimination::cleared;
+use crate::key::{bits, elements_of_f, elements_of_k, judge_columns, rows, witness, Key, Sizes};
 use crate::large_field::{COORDINATES, K};
 use crate::lent;
 use crate::polynomial::Polynomial;
 use crate::refusal::Refusal;
+use crate::small_field::F;
 
 /// "answers Accepted or Rejected"; "Rejected is no refusal."
 #[derive(Clone, Copy, Debug, PartialEq, Eq)]
@@ -19,16 +21,24 @@ pub enum Verdict {
     Rejected,
 }
 
-/// Writes elements of K, "twelve 16-bit words, coordinate 0 first".
-fn write_elements(elements: impl IntoIterator<Item = K>, out: &mut [u16]) {
-    let words: Vec<u16> = elements.into_iter().flat_map(K::words).collect();
-    out.copy_from_slice(&words);
+/// Elements of K as words, "twelve 16-bit words, coordinate 0 first".
+pub(crate) fn words_of_elements(elements: impl IntoIterator<Item = K>) -> Vec<u16> {
+    elements.into_iter().flat_map(K::words).collect()
 }
 
-/// Writes bits as bytes 0 or 1, "row after row, k = 0 first".
+/// Bits as bytes 0 or 1, "row after row, k = 0 first".
+pub(crate) fn bytes_of_bits(rows: &[Vec<bool>]) -> Vec<u8> {
+    rows.iter().flatten().map(|&bit| u8::from(bit)).collect()
+}
+
+/// Writes elements of K.
+fn write_elements(elements: impl IntoIterator<Item = K>, out: &mut [u16]) {
+    out.copy_from_slice(&words_of_elements(elements));
+}
+
+/// Writes bits.
 fn write_bits(rows: &[Vec<bool>], out: &mut [u8]) {
-    let bytes: Vec<u8> = rows.iter().flatten().map(|&bit| u8::from(bit)).collect();
-    out.copy_from_slice(&bytes);
+    out.copy_from_slice(&bytes_of_bits(rows));
 }
 
 /// Two lent elements of K after the places "slices" and "material": 3, then 6.
@@ -53,6 +63,27 @@ pub fn product(a: &[u16], b: &[u16], out: &mut [u16]) -> Result<(), Refusal> {
     let (a, b) = two_elements(a, b, out)?;
     write_elements([a * b], out);
     Ok(())
+}
+
+/// The entry rank: "it takes n, m and H alone, copies H to a lent matrix of the
+/// same length and works there"; "This entry answers the rank, and the matrix
+/// then holds the cleared form; a short rank is no refusal here, and refusals 1
+/// to 4 leave the matrix unchanged". 4 is about H.
+pub fn rank(n: usize, m: usize, h: &[u16], matrix: &mut [u16]) -> Result<usize, Refusal> {
+    let sizes = Sizes::judged(n, m)?;
+    sizes.judge_lengths(&lent![h, matrix])?;
+    let h = rows(&elements_of_f(h)?, n);
+
+    let cleared = cleared(&h);
+    let words: Vec<u16> = cleared
+        .rows
+        .iter()
+        .flatten()
+        .copied()
+        .map(F::word)
+        .collect();
+    matrix.copy_from_slice(&words);
+    Ok(cleared.rank())
 }
 
 /// The entry constraints: "takes the key, positions, u and v; writes t and all

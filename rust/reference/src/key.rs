@@ -1,5 +1,6 @@
 //! Sizes, key, digits, and lent slices turned into elements.
 
+use crate::elimination::dependent;
 use crate::large_field::{COORDINATES, K};
 use crate::refusal::Refusal;
 use crate::small_field::F;
@@ -90,7 +91,7 @@ impl Sizes {
     #[inline]
     pub fn length_of(self, slice: &str) -> usize {
         match slice {
-            "h" => self.h_words(),
+            "h" | "matrix" => self.h_words(),
             "x" => self.x_words(),
             "y" => self.y_words(),
             "positions" => self.position_bytes(),
@@ -102,6 +103,20 @@ impl Sizes {
             "polynomials" => self.polynomial_words(),
             "a" => self.proof_words(),
             _ => unreachable!("no entry takes a slice {slice}"),
+        }
+    }
+
+    /// The place "slices": 3 "a lent slice isn't of its stated length", for
+    /// slices each with its name and its length.
+    pub fn judge_lengths<'a>(
+        self,
+        lent: impl IntoIterator<Item = &'a (&'a str, usize)>,
+    ) -> Result<(), Refusal> {
+        let mut lent = lent.into_iter();
+        if lent.all(|&(slice, length)| length == self.length_of(slice)) {
+            Ok(())
+        } else {
+            Err(Refusal::SliceLength)
         }
     }
 }
@@ -166,17 +181,21 @@ impl Key<'_> {
     pub fn judge_lengths(self, sizes: Sizes, others: &[(&str, usize)]) -> Result<(), Refusal> {
         let Key { h, x, y, .. } = self;
         let key = lent![h, x, y];
-        let mut lent = key.iter().chain(others);
-        if lent.all(|&(slice, length)| length == sizes.length_of(slice)) {
-            Ok(())
-        } else {
-            Err(Refusal::SliceLength)
-        }
+        sizes.judge_lengths(key.iter().chain(others))
     }
 
-    /// The place "key": 4 "an element of H or x is above 2047", or one of y.
-    /// Sizes and lengths are judged before; H comes "row after row".
+    /// The place "key": 4 "an element of H or x is above 2047", or one of y,
+    /// then 15 of the rows of H, "after 4 and 14 and before 5". Sizes and
+    /// lengths are judged before.
     pub fn judged(self, sizes: Sizes) -> Result<WellFormed, Refusal> {
+        let key = self.elements(sizes)?;
+        judge_rows(&key.h)?;
+        Ok(key)
+    }
+
+    /// The elements of the key, or 4; nothing is said of how the rows of H stand
+    /// to each other. H comes "row after row".
+    pub fn elements(self, sizes: Sizes) -> Result<WellFormed, Refusal> {
         let h = elements_of_f(self.h)?;
         let x = elements_of_f(self.x)?;
         let y = elements_of_f(self.y)?;
@@ -189,7 +208,18 @@ impl Key<'_> {
     }
 }
 
-/// A key that "is well formed": "none of refusals 1 to 4 applies to it".
+/// 15 "when some coefficients from F, not all zero, combine the rows of H to
+/// zero".
+pub fn judge_rows(h: &[Vec<F>]) -> Result<(), Refusal> {
+    if dependent(h) {
+        Err(Refusal::DependentRows)
+    } else {
+        Ok(())
+    }
+}
+
+/// A key that "is well formed": "none of refusals 1 to 4 applies to it", and it
+/// "now has rows that don't lean on each other".
 #[derive(Clone, Debug)]
 pub struct WellFormed {
     /// n, m and d.

@@ -4,7 +4,8 @@
 //!
 //! Each function names the sentence of the specification that it follows;
 //! quotes are of the specification's document 01, and about the second level,
-//! serials of four bytes and the target y of its document 02. The methods are
+//! serials of four bytes, the target y, spare codes and the rank of H of its
+//! document 02. The methods are
 //! the plainest ones: long products and long divisions for both fields, general
 //! polynomials over K, sums as they are written, and readers that cut the bytes
 //! into fields first and judge the fields afterwards. Nothing here is meant to
@@ -13,6 +14,8 @@
 //! - [`level`]: what the two levels fix of the fields;
 //! - [`small_field`] and [`large_field`]: the fields F and K of a level;
 //! - [`polynomial`]: polynomials over K;
+//! - [`logarithms`]: products and quotients in F by tables;
+//! - [`elimination`]: the rank of H, and the form that it is cleared to;
 //! - [`key`]: sizes, key, digits and the conversion of lent slices;
 //! - [`constraint`]: the n + m polynomials and the verifier's n + m values;
 //! - [`check_zero`]: the proof a and the verifier's equation;
@@ -27,12 +30,14 @@
 
 pub mod check_zero;
 pub mod constraint;
+pub mod elimination;
 pub mod entries;
 pub mod examples;
 pub mod field_cases;
 pub mod key;
 pub mod large_field;
 pub mod level;
+pub mod logarithms;
 pub mod package;
 pub mod perkcheck;
 pub mod polynomial;
@@ -41,7 +46,7 @@ pub mod samples;
 pub mod small_field;
 pub mod vectors;
 
-pub use entries::{constraints, product, prove, sum, values, verify, Verdict};
+pub use entries::{constraints, product, prove, rank, sum, values, verify, Verdict};
 pub use key::Key;
 pub use package::{
     field, field_range, judge_check_file, judge_package, read_check_file, read_package,

@@ -32,6 +32,9 @@ pub enum Refusal {
     BytesFollow,
     /// 14: "field 04 is present and all its elements are zero".
     ZeroTarget,
+    /// 15: "when some coefficients from F, not all zero, combine the rows of H to
+    /// zero".
+    DependentRows,
     /// 16: "when prove is lent a spare code and none is too large".
     SpareCode,
     /// 19: "a four-byte serial is below 65,536".
@@ -40,7 +43,7 @@ pub enum Refusal {
 
 impl Refusal {
     /// All refusals in the order of their numbers.
-    pub const ALL: [Refusal; 15] = [
+    pub const ALL: [Refusal; 16] = [
         Refusal::SizeN,
         Refusal::SizeM,
         Refusal::SliceLength,
@@ -54,6 +57,7 @@ impl Refusal {
         Refusal::FieldLength,
         Refusal::BytesFollow,
         Refusal::ZeroTarget,
+        Refusal::DependentRows,
         Refusal::SpareCode,
         Refusal::LongSerial,
     ];
@@ -74,6 +78,7 @@ impl Refusal {
             Refusal::FieldLength => 11,
             Refusal::BytesFollow => 12,
             Refusal::ZeroTarget => 14,
+            Refusal::DependentRows => 15,
             Refusal::SpareCode => 16,
             Refusal::LongSerial => 19,
         }

@@ -4,7 +4,8 @@ use native.Mathlib.Omega.{arith}
 use lib.ListN.{length}
 use Rattle.field.specs.Level.{levelAt, K}
 use Rattle.field.specs.declared.Level.{Level}
-use Rattle.row.specs.Elements.{el, Words}
+use Rattle.field.specs.Word.{Words}
+use Rattle.row.specs.Elements.{el}
 use Rattle.row.specs.Step.{Added}
 use Rattle.row.proofs.ElementLaws.{fits-le}
 use Rattle.checkzero.specs.CheckZero.{mask}

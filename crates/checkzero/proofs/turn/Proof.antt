@@ -2,7 +2,7 @@ use mathlib.Core.Path.{subst}
 use borrow.Author.Needs.{needs}
 use Rattle.field.specs.Packed.{Holds}
 use Rattle.field.specs.Level.{levelAt, K}
-use Rattle.constraints.specs.Graded.{pow}
+use Rattle.field.specs.Sums.{pow}
 use Rattle.row.specs.Elements.{el, valueOf}
 use Rattle.checkzero.specs.CheckZero.{maskSum}
 use Rattle.checkzero.proofs.Laws.{pow-more, mask-sum-more}

@@ -1,12 +1,14 @@
 use mathlib.Core.Path.{ap₂, subst₂}
-use mathlib.Core.List.{List}
+use mathlib.Core.List.{List, [], _∷_}
+use Rattle.lists.specs.Lent.{long}
 use Rattle.refusal.proofs.Answers.{when-done, when-refused, not-both}
 use Rattle.field.specs.Level.{FIRST, levelAt}
 use Rattle.field.proofs.Fields.{bounded}
 use Rattle.constraints.specs.Slices.{maskedBytes, polynomialWords, witnessOf}
 use Rattle.constraints.specs.Truth.{Truth}
-use Rattle.constraints.specs.Entry.{constraintsRows, constraintsOutcome, system}
-use Rattle.key.specs.Key.{keySlices}
+use Rattle.key.specs.Key.{keySlices, lengths, below, codesOf, withins}
+use Rattle.key.proofs.Leans.{leans}
+use Rattle.constraints.specs.Entry.{constraintsLent, constraintsRows, constraintsOutcome, system}
 use Rattle.constraints.proofs.Fine.{ConstraintsFine, constraints-fine}
 use Rattle.constraints.proofs.Truth.{truth}
 use Prim.Native.Nat.{ℕ}
@@ -56,8 +58,11 @@ returns c =
     let f = lent (c .before .before .before .before .before .before .before .before) in
     let b = bounded FIRST in (
       when-done (constraintsRows (levelAt FIRST) (a .key) (keySlices (a .h .now) (a .x .now) (a .y .now)) (a .positions .now) (a .u .now) (a .v .now) (a .t .now) (a .polynomials .now)) (maskedBytes (system (levelAt FIRST) (a .key) (keySlices (a .h .now) (a .x .now) (a .y .now))) (witnessOf (a .key .n) (a .positions .now)) (a .u .now), polynomialWords (levelAt FIRST) (system (levelAt FIRST) (a .key) (keySlices (a .h .now) (a .x .now) (a .y .now))) (witnessOf (a .key .n) (a .positions .now)) (a .v .now)) (a .t .now, a .polynomials .now) (c .before .before .before .before .before .before .before .before .before .before .constraints-refused .ensures) (c .before .before .before .before .before .before .before .before .enum-told .given .1) (ap₂ (λ (t p : List ℕ). (t, p)) t p),
-      λ _. subst₂ (Truth (levelAt FIRST) (a .key .n) (a .key .m) (keySlices (a .h .now) (a .x .now) (a .y .now)) (a .positions .now) (a .u .now) (a .v .now)) (sym t) (sym p)
-          (truth (levelAt FIRST) (b .width) (b .coordinates) (a .key .n) (a .key .m) (keySlices (a .h .now) (a .x .now) (a .y .now)) (omega (arith, b .most, f .is-sized .most)) (a .positions .now) (λ i l. f .positions-lt i) (a .u .now) (a .v .now)),
+      (
+        leans FIRST (a .key) (long (constraintsLent (lengths (levelAt FIRST) (a .key)) (keySlices (a .h .now) (a .x .now) (a .y .now)) (a .positions .now) (a .u .now) (a .v .now) (a .t .now) (a .polynomials .now))) (keySlices (a .h .now) (a .x .now) (a .y .now)) (below 1 (a .u .now)) (withins (levelAt FIRST) (a .v .now ∷ [])) (codesOf (a .key .n) (a .positions .now)) [] tt (c .before .before .before .before .before .before .before .before .before .before .constraints-refused .ensures),
+        λ _. subst₂ (Truth (levelAt FIRST) (a .key .n) (a .key .m) (keySlices (a .h .now) (a .x .now) (a .y .now)) (a .positions .now) (a .u .now) (a .v .now)) (sym t) (sym p)
+            (truth (levelAt FIRST) (b .width) (b .coordinates) (a .key .n) (a .key .m) (keySlices (a .h .now) (a .x .now) (a .y .now)) (omega (arith, b .most, f .is-sized .most)) (a .positions .now) (λ i l. f .positions-lt i) (a .u .now) (a .v .now)),
+      ),
     )
 
 same-length-3 : tie.Need-same-length-3
@@ -72,7 +77,10 @@ returns-2 c =
     let a = c .before .before .before .before .before .before .before .before .before .before .before .before .before .args in
     let e = c .before .before .constraints-refused .ensures in (
       when-refused (constraintsRows (levelAt FIRST) (a .key) (keySlices (a .h .now) (a .x .now) (a .y .now)) (a .positions .now) (a .u .now) (a .v .now) (a .t .now) (a .polynomials .now)) (maskedBytes (system (levelAt FIRST) (a .key) (keySlices (a .h .now) (a .x .now) (a .y .now))) (witnessOf (a .key .n) (a .positions .now)) (a .u .now), polynomialWords (levelAt FIRST) (system (levelAt FIRST) (a .key) (keySlices (a .h .now) (a .x .now) (a .y .now))) (witnessOf (a .key .n) (a .positions .now)) (a .v .now)) (a .t .now, a .polynomials .now) e (c .enum-told2 .given .1),
-      λ done. absurd (not-both done (c .enum-told2 .given .1)),
+      (
+        leans FIRST (a .key) (long (constraintsLent (lengths (levelAt FIRST) (a .key)) (keySlices (a .h .now) (a .x .now) (a .y .now)) (a .positions .now) (a .u .now) (a .v .now) (a .t .now) (a .polynomials .now))) (keySlices (a .h .now) (a .x .now) (a .y .now)) (below 1 (a .u .now)) (withins (levelAt FIRST) (a .v .now ∷ [])) (codesOf (a .key .n) (a .positions .now)) [] tt e,
+        λ done. absurd (not-both done (c .enum-told2 .given .1)),
+      ),
     )
 
 pub constraints-spec : {M : Type 1} → statement M

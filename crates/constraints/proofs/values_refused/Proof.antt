@@ -1,14 +1,16 @@
 use mathlib.Core.List.{[], _∷_}
+use borrow.Author.Tests.{eq-eqb}
 use Rattle.lists.specs.Lent.{long}
+use Rattle.lists.proofs.Lent.{each-long}
 use Rattle.refusal.specs.Answer.{firstOf}
 use Rattle.refusal.specs.declared.Answer.the-variants.{Done}
 use Rattle.refusal.proofs.Answers.{after-refused, none}
 use Rattle.field.specs.Level.{FIRST, levelAt}
 use Rattle.key.specs.declared.Code.the-variants.{Column}
-use Rattle.key.specs.Key.{lengths, sizes, Sized, keySlices, keyWithin, below, withins, checks}
-use Rattle.key.proofs.Sized.{sized}
+use Rattle.key.specs.Key.{lengths, sizes, Sized, keySlices, below, withins, checks}
+use Rattle.key.proofs.Sized.{sized, first-matrix}
 use Rattle.key.proofs.Fine.{withins-more, withins-last}
-use Rattle.key.proofs.Checked.{told, told-length}
+use Rattle.key.proofs.Checked.{told, told-key, told-length}
 use Rattle.constraints.specs.Entry.{valuesLent}
 use mathlib.Core.Path.{_≡_, refl, sym, _∙_}
 use borrow.Author.Needs.{needs}
@@ -31,7 +33,7 @@ enum-told c = search needs
 returns : tie.Need-returns
 returns c =
     let a = c .before .before .before .before .before .before .before .before .before .before .args in
-    after-refused (sizes (levelAt FIRST) (a .key)) (checks (long (valuesLent (lengths (levelAt FIRST) (a .key)) (keySlices (a .h .now) (a .x .now) (a .y .now)) (a .t .now) (a .q .now) (a .delta .now) (a .p .now))) (keyWithin (levelAt FIRST) (keySlices (a .h .now) (a .x .now) (a .y .now))) (below 1 (a .t .now)) (withins (levelAt FIRST) (a .q .now ∷ a .delta .now ∷ [])) Column) (c .before .before .sizes .ensures) (c .enum-told .given .1)
+    after-refused (sizes (levelAt FIRST) (a .key)) (checks (levelAt FIRST) (a .key) (long (valuesLent (lengths (levelAt FIRST) (a .key)) (keySlices (a .h .now) (a .x .now) (a .y .now)) (a .t .now) (a .q .now) (a .delta .now) (a .p .now))) (keySlices (a .h .now) (a .x .now) (a .y .now)) (below 1 (a .t .now)) (withins (levelAt FIRST) (a .q .now ∷ a .delta .now ∷ [])) Column) (c .before .before .sizes .ensures) (c .enum-told .given .1)
 
 enum-told-2 : tie.Need-enum-told-2
 enum-told-2 c = search needs
@@ -42,8 +44,28 @@ values-lengths-requires c κs = is-sized c
 returns-2 : tie.Need-returns-2
 returns-2 c =
     let a = c .before .before .before .before .before .before .before .before .before .before .before .before .args in
-    told-length (levelAt FIRST) (a .key) (long (valuesLent (lengths (levelAt FIRST) (a .key)) (keySlices (a .h .now) (a .x .now) (a .y .now)) (a .t .now) (a .q .now) (a .delta .now) (a .p .now))) (keyWithin (levelAt FIRST) (keySlices (a .h .now) (a .x .now) (a .y .now))) (below 1 (a .t .now)) (withins (levelAt FIRST) (a .q .now ∷ a .delta .now ∷ [])) Column []
+    told-length (levelAt FIRST) (a .key) (long (valuesLent (lengths (levelAt FIRST) (a .key)) (keySlices (a .h .now) (a .x .now) (a .y .now)) (a .t .now) (a .q .now) (a .delta .now) (a .p .now))) (keySlices (a .h .now) (a .x .now) (a .y .now)) (below 1 (a .t .now)) (withins (levelAt FIRST) (a .q .now ∷ a .delta .now ∷ [])) Column []
     (passed (c .before .before)) (c .before .values-lengths .result) (c .before .values-lengths .ensures) (c .if1 .taken)
+
+-- past the lengths
+contents-requires : tie.Need-contents-requires
+contents-requires c κs =
+    let s = is-sized (c .before .before) in
+    let a = c .before .before .before .before .before .before .before .before .before .before .before .before .args in
+    (s, each-long (valuesLent (lengths (levelAt FIRST) (a .key)) (keySlices (a .h .now) (a .x .now) (a .y .now)) (a .t .now) (a .q .now) (a .delta .now) (a .p .now)) (sym (c .before .values-lengths .ensures) ∙ eq-eqb (c .before .values-lengths .result) 0 (c .if1 .left)) .0, first-matrix (a .key) s)
+
+enum-told-3 : tie.Need-enum-told-3
+enum-told-3 c = search needs
+
+returns-3 : tie.Need-returns-3
+returns-3 c =
+    let a = c .before .before .before .before .before .before .before .before .before .before .before .before .before .before .before .args in
+    let e = c .before .before .before in
+    told-key (levelAt FIRST) (a .key) (long (valuesLent (lengths (levelAt FIRST) (a .key)) (keySlices (a .h .now) (a .x .now) (a .y .now)) (a .t .now) (a .q .now) (a .delta .now) (a .p .now))) (keySlices (a .h .now) (a .x .now) (a .y .now)) (below 1 (a .t .now)) (withins (levelAt FIRST) (a .q .now ∷ a .delta .now ∷ [])) Column []
+    (passed (e .before .before)) (e .before .values-lengths .result) (e .before .values-lengths .ensures) (e .if1 .left) (c .before .before .contents .ensures) (c .enum-told3 .given .1)
+
+enum-told-4 : tie.Need-enum-told-4
+enum-told-4 c = search needs
 
 excess-requires : tie.Need-excess-requires
 excess-requires c κs = search needs
@@ -51,23 +73,21 @@ excess-requires c κs = search needs
 excess-requires-2 : tie.Need-excess-requires-2
 excess-requires-2 c κs = search needs
 
-excess-requires-3 : tie.Need-excess-requires-3
-excess-requires-3 c κs = search needs
-
 over-requires : tie.Need-over-requires
 over-requires c κs = search needs
 
-contents-requires : tie.Need-contents-requires
-contents-requires c κs = search needs
+material-requires : tie.Need-material-requires
+material-requires c κs = search needs
 
-returns-3 : tie.Need-returns-3
-returns-3 c =
-    let a = c .before .before .before .before .before .before .before .before .before .before .before .before .before .before .before .before .before .args in
-    told (levelAt FIRST) (a .key) (long (valuesLent (lengths (levelAt FIRST) (a .key)) (keySlices (a .h .now) (a .x .now) (a .y .now)) (a .t .now) (a .q .now) (a .delta .now) (a .p .now))) (keyWithin (levelAt FIRST) (keySlices (a .h .now) (a .x .now) (a .y .now))) (below 1 (a .t .now)) (withins (levelAt FIRST) (a .q .now ∷ a .delta .now ∷ [])) Column
-    (passed (c .before .before .before .before .before .before .before)) (c .before .before .before .before .before .before .values-lengths .result) (c .before .before .before .before .before .before .values-lengths .ensures) (c .before .before .before .before .before .if1 .left) (c .contents .ensures)
-    (c .before .before .before .before .excess .ensures)
+returns-4 : tie.Need-returns-4
+returns-4 c =
+    let a = c .before .before .before .before .before .before .before .before .before .before .before .before .before .before .before .before .before .before .before .args in
+    let e = c .before .before .before .before .before .before .before in
+    let f = c .before .before .before .before in
+    told (levelAt FIRST) (a .key) (long (valuesLent (lengths (levelAt FIRST) (a .key)) (keySlices (a .h .now) (a .x .now) (a .y .now)) (a .t .now) (a .q .now) (a .delta .now) (a .p .now))) (keySlices (a .h .now) (a .x .now) (a .y .now)) (below 1 (a .t .now)) (withins (levelAt FIRST) (a .q .now ∷ a .delta .now ∷ [])) Column
+    (passed (e .before .before)) (e .before .values-lengths .result) (e .before .values-lengths .ensures) (e .if1 .left) (sym (f .before .before .contents .ensures) ∙ f .enum-told4 .given .1) (c .material .ensures)
     (c .before .over .ensures)
-    (withins-more (levelAt FIRST) (a .q .now) (a .delta .now ∷ []) (c .before .before .before .excess2 .result) (c .before .before .excess3 .result) (c .before .before .before .excess2 .ensures) (withins-last (levelAt FIRST) (a .delta .now) (c .before .before .excess3 .result) (c .before .before .excess3 .ensures)))
+    (withins-more (levelAt FIRST) (a .q .now) (a .delta .now ∷ []) (c .before .before .before .excess .result) (c .before .before .excess2 .result) (c .before .before .before .excess .ensures) (withins-last (levelAt FIRST) (a .delta .now) (c .before .before .excess2 .result) (c .before .before .excess2 .ensures)))
     refl
 
 pub values-refused-spec : {M : Type 1} → statement M
@@ -80,9 +100,12 @@ values-refused-spec =
     enum-told-2
     values-lengths-requires
     returns-2
+    contents-requires
+    enum-told-3
+    returns-3
+    enum-told-4
     excess-requires
     excess-requires-2
-    excess-requires-3
     over-requires
-    contents-requires
-    returns-3)
+    material-requires
+    returns-4)

@@ -1,6 +1,7 @@
 use Rattle.field.specs.Level.{FIRST, levelAt}
 use Rattle.field.proofs.Fields.{bounded}
-use Rattle.row.specs.Elements.{Fits, Words}
+use Rattle.field.specs.Word.{Words}
+use Rattle.row.specs.Elements.{Fits}
 use Rattle.row.specs.Lent.{LentKey, LentTarget}
 use Rattle.rows.specs.Outcome as O
 use Rattle.key.specs.Key.{keySlices}

@@ -1,6 +1,7 @@
 use Rattle.field.specs.Level.{FIRST, levelAt}
 use Rattle.field.proofs.Fields.{bounded}
-use Rattle.row.specs.Elements.{Fits, Words, Bits}
+use Rattle.field.specs.Word.{Words}
+use Rattle.row.specs.Elements.{Fits, Bits}
 use Rattle.row.specs.Lent.{LentKey, LentTarget}
 use Rattle.rows.specs.Outcome as O
 use Rattle.key.specs.Key.{keySlices, degree}

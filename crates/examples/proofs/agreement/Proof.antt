@@ -27,8 +27,8 @@ same-length-3 c = search needs
 returns : tie.Need-returns
 returns c written valued honest j l =
     let a = c .before .before .before .before .before .before .before .before .before .before .before .before .before .before .before .before .before .before .before .before .before .before .before .args in
-    ap (λ (s : List ℕ). elementAt (levelAt FIRST) s j) (values-done (levelAt FIRST) (a .key) (keySlices (a .h .now) (a .x .now) (a .y .now)) _ (a .q .now) (a .delta .now) (a .values .now) (c .before .before .values .ensures) valued)
-    ∙ c .before .before .before .before .before .before .before .before .before .constraints .ensures .1 written .agrees .each (a .q .now) (a .delta .now) honest j l
+    ap (λ (s : List ℕ). elementAt (levelAt FIRST) s j) (values-done (levelAt FIRST) (a .key) (keySlices (a .h .now) (a .x .now) (a .y .now)) _ (a .q .now) (a .delta .now) (a .values .now) (c .before .before .values .ensures .0) valued)
+    ∙ c .before .before .before .before .before .before .before .before .before .constraints .ensures .1 .1 written .agrees .each (a .q .now) (a .delta .now) honest j l
 
 pub agreement-spec : {M : Type 1} → statement M
 agreement-spec =

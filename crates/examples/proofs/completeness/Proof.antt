@@ -21,7 +21,7 @@ returns : tie.Need-returns
 returns c =
     let a = c .before .before .before .before .before .before .before .before .before .before .before .before .before .before .before .before .before .before .before .before .before .before .before .before .args in
     let p = c .before .before .before .before .before .before .before .prove .ensures in
-    accepted FIRST (a .key) (keySlices (a .h .now) (a .x .now) (a .y .now)) (a .positions .now) (a .u .now) (a .v .now) (a .r .now) (a .s .now) (a .alpha .now) (a .t .now) (a .a .now) (a .q .now) (a .delta .now) (a .masks .now) (p .0) (p .1) (c .verify .ensures .0)
+    accepted FIRST (a .key) (keySlices (a .h .now) (a .x .now) (a .y .now)) (a .positions .now) (a .u .now) (a .v .now) (a .r .now) (a .s .now) (a .alpha .now) (a .t .now) (a .a .now) (a .q .now) (a .delta .now) (a .masks .now) (p .0) (p .1 .1) (c .verify .ensures .0)
 
 pub completeness-spec : {M : Type 1} → statement M
 completeness-spec =

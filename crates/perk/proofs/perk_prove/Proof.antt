@@ -12,7 +12,7 @@ use Rattle.key.specs.declared.Key.{Key}
 use Rattle.key.specs.Key.{KeySlices}
 use Rattle.prover.specs.Entry.{proveRows, topsRow, proveOutcome}
 use Rattle.prover.specs.Solved.{Solved}
-use Rattle.perk.proofs.Numbers.{told-done, told-refusal, both}
+use Rattle.perk.proofs.Numbers.{told-done, told-refusal, told-leans, both}
 use borrow.Author.Needs.{needs}
 use Rattle.perk.proofs.perk_prove.Statement.{statement}
 use Rattle.perk.proofs.perk_prove.Tie as tie
@@ -32,7 +32,7 @@ same-length-2 c = search needs
 done : (l : Level) (key : Key) (lent : KeySlices) (positions u v r s α t a : List ℕ) {o : Answer} {left : List ℕ × List ℕ} {k : ℕ} → (o, left) ≡ proveOutcome l key lent positions u v r s α t a → k ≡ numberOf o → (k ≡ 0) ↔ (o ≡ Done)
 unfolding proveOutcome
 done l key lent positions u v r s α t a e n =
-    told-done n (proveRows l key lent positions u v r s α t a ++ topsRow l key lent positions v) (omega arith, omega arith, (omega arith, omega arith, (omega arith, omega arith, (omega arith, omega arith, (omega arith, omega arith, (omega arith, omega arith, (omega arith, omega arith, (omega arith, omega arith, (omega arith, omega arith, (omega arith, omega arith, (omega arith, omega arith, tt))))))))))) (ap (λ (o : Answer × (List ℕ × List ℕ)). o .0) e)
+    told-done n (proveRows l key lent positions u v r s α t a ++ topsRow l key lent positions v) (omega arith, omega arith, (omega arith, omega arith, (omega arith, omega arith, (omega arith, omega arith, (omega arith, omega arith, (omega arith, omega arith, (omega arith, omega arith, (omega arith, omega arith, (omega arith, omega arith, (omega arith, omega arith, (omega arith, omega arith, (omega arith, omega arith, tt)))))))))))) (ap (λ (o : Answer × (List ℕ × List ℕ)). o .0) e)
 
 solved : (l : Level) (key : Key) (lent : KeySlices) (positions u v r s α t a : List ℕ) {o : Answer} {left : List ℕ × List ℕ} {k : ℕ} → (o, left) ≡ proveOutcome l key lent positions u v r s α t a → k ≡ numberOf o
     → Solved l key lent positions u v r s α t a (o ≡ Done) (o ≡ refusal 8) (o ≡ refusal 16) → Solved l key lent positions u v r s α t a (k ≡ 0) (k ≡ 8) (k ≡ 16)
@@ -42,7 +42,7 @@ solved l key lent positions u v r s α t a e n known =
 returns : tie.Need-returns
 returns c =
     let e = c .before .before .before .before .before .prove .ensures in
-    (when-numbered (e .0) (c .number .ensures), solved _ _ _ _ _ _ _ _ _ _ _ (e .0) (c .number .ensures) (e .1))
+    (when-numbered (e .0) (c .number .ensures), (told-leans (c .number .ensures) (e .1 .0), solved _ _ _ _ _ _ _ _ _ _ _ (e .0) (c .number .ensures) (e .1 .1)))
 
 pub perk-prove-spec : {M : Type 1} → statement M
 perk-prove-spec =

@@ -1,4 +1,5 @@
 use Rattle.refusal.proofs.Answers.{when-numbered}
+use Rattle.perk.proofs.Numbers.{told-leans}
 use borrow.Author.Needs.{needs}
 use Rattle.perk.proofs.perk_values.Statement.{statement}
 use Rattle.perk.proofs.perk_values.Tie as tie
@@ -13,7 +14,7 @@ same-length : tie.Need-same-length
 same-length c = search needs
 
 returns : tie.Need-returns
-returns c = when-numbered (c .before .before .before .values .ensures) (c .number .ensures)
+returns c = let e = c .before .before .before .values .ensures in (when-numbered (e .0) (c .number .ensures), told-leans (c .number .ensures) (e .1))
 
 pub perk-values-spec : {M : Type 1} → statement M
 perk-values-spec = tie.close (tie.spec values-requires number-requires same-length returns)

@@ -1,16 +1,18 @@
 use mathlib.Core.List.{[], _∷_, _++_}
 use lib.Bits.{bitOr}
+use borrow.Author.Tests.{eq-eqb}
 use Rattle.lists.specs.Lent.{long}
+use Rattle.lists.proofs.Lent.{each-long}
 use Rattle.refusal.specs.Answer.{firstOf}
 use Rattle.refusal.specs.declared.Answer.the-variants.{Done}
 use Rattle.refusal.proofs.Answers.{after-refused, none}
 use Rattle.field.specs.Level.{FIRST, levelAt}
 use Rattle.field.proofs.Fields.{bounded}
-use Rattle.key.specs.Key.{keySlices, keyWithin, lengths, sizes, Sized, below, codeAt, codesOf, withins, checks, spareRow}
-use Rattle.key.proofs.Sized.{sized}
+use Rattle.key.specs.Key.{keySlices, lengths, sizes, Sized, below, codeAt, codesOf, withins, checks, spareRow}
+use Rattle.key.proofs.Sized.{sized, first-matrix}
 use Rattle.key.proofs.Codes.{at-number}
 use Rattle.key.proofs.Fine.{withins-more, withins-last}
-use Rattle.key.proofs.Checked.{told-spare, told-length}
+use Rattle.key.proofs.Checked.{told-spare, told-key, told-length}
 use Rattle.prover.specs.Entry.{proveLent}
 use mathlib.Core.Path.{_≡_, sym, ap, _∙_}
 use native.Mathlib.Omega.{arith}
@@ -34,7 +36,7 @@ enum-told c = search needs
 returns : tie.Need-returns
 returns c =
     let a = c .before .before .before .before .before .before .before .before .before .before .before .before .before .before .args in
-    after-refused (sizes (levelAt FIRST) (a .key)) (checks (long (proveLent (lengths (levelAt FIRST) (a .key)) (keySlices (a .h .now) (a .x .now) (a .y .now)) (a .positions .now) (a .u .now) (a .v .now) (a .r .now) (a .s .now) (a .alpha .now) (a .t .now) (a .a .now))) (keyWithin (levelAt FIRST) (keySlices (a .h .now) (a .x .now) (a .y .now))) (below 1 (a .u .now)) (withins (levelAt FIRST) (a .v .now ∷ a .r .now ∷ a .s .now ∷ a .alpha .now ∷ [])) (codesOf (a .key .n) (a .positions .now)) ++ spareRow (codesOf (a .key .n) (a .positions .now))) (c .before .before .sizes .ensures) (c .enum-told .given .1)
+    after-refused (sizes (levelAt FIRST) (a .key)) (checks (levelAt FIRST) (a .key) (long (proveLent (lengths (levelAt FIRST) (a .key)) (keySlices (a .h .now) (a .x .now) (a .y .now)) (a .positions .now) (a .u .now) (a .v .now) (a .r .now) (a .s .now) (a .alpha .now) (a .t .now) (a .a .now))) (keySlices (a .h .now) (a .x .now) (a .y .now)) (below 1 (a .u .now)) (withins (levelAt FIRST) (a .v .now ∷ a .r .now ∷ a .s .now ∷ a .alpha .now ∷ [])) (codesOf (a .key .n) (a .positions .now)) ++ spareRow (codesOf (a .key .n) (a .positions .now))) (c .before .before .sizes .ensures) (c .enum-told .given .1)
 
 enum-told-2 : tie.Need-enum-told-2
 enum-told-2 c = search needs
@@ -45,8 +47,28 @@ lengths-requires c κs = is-sized c
 returns-2 : tie.Need-returns-2
 returns-2 c =
     let a = c .before .before .before .before .before .before .before .before .before .before .before .before .before .before .before .before .args in
-    told-length (levelAt FIRST) (a .key) (long (proveLent (lengths (levelAt FIRST) (a .key)) (keySlices (a .h .now) (a .x .now) (a .y .now)) (a .positions .now) (a .u .now) (a .v .now) (a .r .now) (a .s .now) (a .alpha .now) (a .t .now) (a .a .now))) (keyWithin (levelAt FIRST) (keySlices (a .h .now) (a .x .now) (a .y .now))) (below 1 (a .u .now)) (withins (levelAt FIRST) (a .v .now ∷ a .r .now ∷ a .s .now ∷ a .alpha .now ∷ [])) (codesOf (a .key .n) (a .positions .now)) (spareRow (codesOf (a .key .n) (a .positions .now)))
+    told-length (levelAt FIRST) (a .key) (long (proveLent (lengths (levelAt FIRST) (a .key)) (keySlices (a .h .now) (a .x .now) (a .y .now)) (a .positions .now) (a .u .now) (a .v .now) (a .r .now) (a .s .now) (a .alpha .now) (a .t .now) (a .a .now))) (keySlices (a .h .now) (a .x .now) (a .y .now)) (below 1 (a .u .now)) (withins (levelAt FIRST) (a .v .now ∷ a .r .now ∷ a .s .now ∷ a .alpha .now ∷ [])) (codesOf (a .key .n) (a .positions .now)) (spareRow (codesOf (a .key .n) (a .positions .now)))
     (passed (c .before .before)) (c .before .lengths .result) (c .before .lengths .ensures) (c .if1 .taken)
+
+-- past the lengths
+contents-requires : tie.Need-contents-requires
+contents-requires c κs =
+    let s = is-sized (c .before .before) in
+    let a = c .before .before .before .before .before .before .before .before .before .before .before .before .before .before .before .before .args in
+    (s, each-long (proveLent (lengths (levelAt FIRST) (a .key)) (keySlices (a .h .now) (a .x .now) (a .y .now)) (a .positions .now) (a .u .now) (a .v .now) (a .r .now) (a .s .now) (a .alpha .now) (a .t .now) (a .a .now)) (sym (c .before .lengths .ensures) ∙ eq-eqb (c .before .lengths .result) 0 (c .if1 .left)) .0, first-matrix (a .key) s)
+
+enum-told-3 : tie.Need-enum-told-3
+enum-told-3 c = search needs
+
+returns-3 : tie.Need-returns-3
+returns-3 c =
+    let a = c .before .before .before .before .before .before .before .before .before .before .before .before .before .before .before .before .before .before .before .args in
+    let e = c .before .before .before in
+    told-key (levelAt FIRST) (a .key) (long (proveLent (lengths (levelAt FIRST) (a .key)) (keySlices (a .h .now) (a .x .now) (a .y .now)) (a .positions .now) (a .u .now) (a .v .now) (a .r .now) (a .s .now) (a .alpha .now) (a .t .now) (a .a .now))) (keySlices (a .h .now) (a .x .now) (a .y .now)) (below 1 (a .u .now)) (withins (levelAt FIRST) (a .v .now ∷ a .r .now ∷ a .s .now ∷ a .alpha .now ∷ [])) (codesOf (a .key .n) (a .positions .now)) (spareRow (codesOf (a .key .n) (a .positions .now)))
+    (passed (e .before .before)) (e .before .lengths .result) (e .before .lengths .ensures) (e .if1 .left) (c .before .before .contents .ensures) (c .enum-told3 .given .1)
+
+enum-told-4 : tie.Need-enum-told-4
+enum-told-4 c = search needs
 
 excess-requires : tie.Need-excess-requires
 excess-requires c κs = search needs
@@ -60,26 +82,24 @@ excess-requires-3 c κs = search needs
 excess-requires-4 : tie.Need-excess-requires-4
 excess-requires-4 c κs = search needs
 
-excess-requires-5 : tie.Need-excess-requires-5
-excess-requires-5 c κs = search needs
-
 over-requires : tie.Need-over-requires
 over-requires c κs = search needs
 
 codes-requires : tie.Need-codes-requires
-codes-requires c κs = let s = is-sized (c .before .before .before .before .before .before .before .before) in (omega (arith, s .two), omega (arith, s .most, bounded FIRST .most))
+codes-requires c κs = let s = is-sized (c .before .before .before .before .before .before .before .before .before .before) in (omega (arith, s .two), omega (arith, s .most, bounded FIRST .most))
 
-contents-requires : tie.Need-contents-requires
-contents-requires c κs = search needs
+material-requires : tie.Need-material-requires
+material-requires c κs = search needs
 
-returns-3 : tie.Need-returns-3
-returns-3 c =
-    let a = c .before .before .before .before .before .before .before .before .before .before .before .before .before .before .before .before .before .before .before .before .before .before .before .before .args in
-    told-spare (levelAt FIRST) (a .key) (long (proveLent (lengths (levelAt FIRST) (a .key)) (keySlices (a .h .now) (a .x .now) (a .y .now)) (a .positions .now) (a .u .now) (a .v .now) (a .r .now) (a .s .now) (a .alpha .now) (a .t .now) (a .a .now))) (keyWithin (levelAt FIRST) (keySlices (a .h .now) (a .x .now) (a .y .now))) (below 1 (a .u .now)) (withins (levelAt FIRST) (a .v .now ∷ a .r .now ∷ a .s .now ∷ a .alpha .now ∷ [])) (codesOf (a .key .n) (a .positions .now))
-    (passed (c .before .before .before .before .before .before .before .before .before .before)) (c .before .before .before .before .before .before .before .before .before .lengths .result) (c .before .before .before .before .before .before .before .before .before .lengths .ensures) (c .before .before .before .before .before .before .before .before .if1 .left) (c .contents .ensures)
-    (c .before .before .before .before .before .before .before .excess .ensures)
+returns-4 : tie.Need-returns-4
+returns-4 c =
+    let a = c .before .before .before .before .before .before .before .before .before .before .before .before .before .before .before .before .before .before .before .before .before .before .before .before .before .before .args in
+    let e = c .before .before .before .before .before .before .before .before .before .before in
+    let f = c .before .before .before .before .before .before .before in
+    told-spare (levelAt FIRST) (a .key) (long (proveLent (lengths (levelAt FIRST) (a .key)) (keySlices (a .h .now) (a .x .now) (a .y .now)) (a .positions .now) (a .u .now) (a .v .now) (a .r .now) (a .s .now) (a .alpha .now) (a .t .now) (a .a .now))) (keySlices (a .h .now) (a .x .now) (a .y .now)) (below 1 (a .u .now)) (withins (levelAt FIRST) (a .v .now ∷ a .r .now ∷ a .s .now ∷ a .alpha .now ∷ [])) (codesOf (a .key .n) (a .positions .now))
+    (passed (e .before .before)) (e .before .lengths .result) (e .before .lengths .ensures) (e .if1 .left) (sym (f .before .before .contents .ensures) ∙ f .enum-told4 .given .1) (c .material .ensures)
     (c .before .before .over .ensures)
-    (withins-more (levelAt FIRST) (a .v .now) (a .r .now ∷ a .s .now ∷ a .alpha .now ∷ []) (c .before .before .before .before .before .before .excess2 .result) (bitOr (c .before .before .before .before .before .excess3 .result) (bitOr (c .before .before .before .before .excess4 .result) (c .before .before .before .excess5 .result))) (c .before .before .before .before .before .before .excess2 .ensures) (withins-more (levelAt FIRST) (a .r .now) (a .s .now ∷ a .alpha .now ∷ []) (c .before .before .before .before .before .excess3 .result) (bitOr (c .before .before .before .before .excess4 .result) (c .before .before .before .excess5 .result)) (c .before .before .before .before .before .excess3 .ensures) (withins-more (levelAt FIRST) (a .s .now) (a .alpha .now ∷ []) (c .before .before .before .before .excess4 .result) (c .before .before .before .excess5 .result) (c .before .before .before .before .excess4 .ensures) (withins-last (levelAt FIRST) (a .alpha .now) (c .before .before .before .excess5 .result) (c .before .before .before .excess5 .ensures)))))
+    (withins-more (levelAt FIRST) (a .v .now) (a .r .now ∷ a .s .now ∷ a .alpha .now ∷ []) (c .before .before .before .before .before .before .excess .result) (bitOr (c .before .before .before .before .before .excess2 .result) (bitOr (c .before .before .before .before .excess3 .result) (c .before .before .before .excess4 .result))) (c .before .before .before .before .before .before .excess .ensures) (withins-more (levelAt FIRST) (a .r .now) (a .s .now ∷ a .alpha .now ∷ []) (c .before .before .before .before .before .excess2 .result) (bitOr (c .before .before .before .before .excess3 .result) (c .before .before .before .excess4 .result)) (c .before .before .before .before .before .excess2 .ensures) (withins-more (levelAt FIRST) (a .s .now) (a .alpha .now ∷ []) (c .before .before .before .before .excess3 .result) (c .before .before .before .excess4 .result) (c .before .before .before .before .excess3 .ensures) (withins-last (levelAt FIRST) (a .alpha .now) (c .before .before .before .excess4 .result) (c .before .before .before .excess4 .ensures)))))
     (ap codeAt (c .before .codes .ensures) ∙ at-number (codesOf (a .key .n) (a .positions .now)))
 
 pub refused-spec : {M : Type 1} → statement M
@@ -92,12 +112,15 @@ refused-spec =
     enum-told-2
     lengths-requires
     returns-2
+    contents-requires
+    enum-told-3
+    returns-3
+    enum-told-4
     excess-requires
     excess-requires-2
     excess-requires-3
     excess-requires-4
-    excess-requires-5
     over-requires
     codes-requires
-    contents-requires
-    returns-3)
+    material-requires
+    returns-4)

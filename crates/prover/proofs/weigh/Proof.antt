@@ -8,10 +8,10 @@ use borrow.Author.Needs.{needs}
 use Rattle.lists.specs.Words.{concat}
 use Rattle.refusal.proofs.Answers.{when-done, when-refused, pass, stop}
 use Rattle.field.specs.Level.{FIRST, levelAt, K}
-use Rattle.field.specs.Word.{words}
+use Rattle.field.specs.Word.{words, Words}
 use Rattle.field.proofs.Fields.{bounded}
 use Rattle.field.proofs.Tested.{fine, above}
-use Rattle.row.specs.Elements.{el, Words, Fits}
+use Rattle.row.specs.Elements.{el, Fits}
 use Rattle.row.specs.Lent.{LentKey}
 use Rattle.row.proofs.ElementLaws.{fits-le, fits-all}
 use Rattle.key.specs.Key.{keySlices, degree}

@@ -9,7 +9,8 @@ use Rattle.field.specs.declared.Level.{Level}
 use Rattle.row.specs.Lent.{smallOf, entryOf, digitOf, elementOf}
 use Rattle.row.specs.Step.{Shared}
 use Rattle.row.specs.Polynomial.{z, column, check}
-use Rattle.row.specs.Elements.{el, Fits, Words}
+use Rattle.field.specs.Word.{Words}
+use Rattle.row.specs.Elements.{el, Fits}
 use Rattle.row.proofs.ElementLaws.{fits-le, fits-all, holds-value, holds-held, cleared-words, cleared-el}
 use Rattle.row.proofs.NumberLaws.{row-le, row-next}
 use Rattle.row.proofs.ListLaws.{blanks-length}

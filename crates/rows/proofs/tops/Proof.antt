@@ -8,7 +8,8 @@ use Rattle.field.specs.Level.{levelAt, K}
 use Rattle.field.specs.declared.Level.{Level}
 use Rattle.row.specs.Lent.{smallOf, entryOf, digitOf, elementOf}
 use Rattle.row.specs.Polynomial.{z, column, check}
-use Rattle.row.specs.Elements.{el, Fits, Words}
+use Rattle.field.specs.Word.{Words}
+use Rattle.row.specs.Elements.{el, Fits}
 use Rattle.row.proofs.ElementLaws.{fits-le, holds-value, holds-held, cleared-words, cleared-el}
 use Rattle.row.proofs.ListLaws.{blanks-length}
 use Rattle.row.proofs.SumLaws.{monomial-same}

@@ -6,13 +6,13 @@ use native.Mathlib.Omega.{arith}
 use borrow.Author.Needs.{needs}
 use lib.ListN.{length, getD}
 use Rattle.lists.specs.Words.{concat}
-use Rattle.field.specs.Word.{odd, words}
+use Rattle.field.specs.Word.{odd, words, Words}
 use Rattle.field.specs.Level.{levelAt, K}
 use Rattle.field.specs.declared.Level.{Level}
 use Rattle.row.specs.Lent.{smallOf, entryOf, bitOf, elementOf}
 use Rattle.row.specs.Step.{Shared}
 use Rattle.row.specs.Polynomial.{value, raise, monomial, columnValue, checkValue}
-use Rattle.row.specs.Elements.{el, Fits, Words, valueOf, Held}
+use Rattle.row.specs.Elements.{el, Fits, valueOf, Held}
 use Rattle.row.proofs.ElementLaws.{fits-le, fits-all, holds-value, holds-held, cleared-words, cleared-el}
 use Rattle.row.proofs.NumberLaws.{row-le, row-next}
 use Rattle.row.proofs.ListLaws.{blanks-length}

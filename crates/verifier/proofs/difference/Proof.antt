@@ -6,7 +6,8 @@ use lib.ListN.{length}
 use borrow.Author.Needs.{needs}
 use Rattle.field.specs.Level.{FIRST, levelAt, K}
 use Rattle.field.proofs.Fields.{bounded}
-use Rattle.row.specs.Elements.{el, Words, Bits, Fits, valueOf}
+use Rattle.field.specs.Word.{Words}
+use Rattle.row.specs.Elements.{el, Bits, Fits, valueOf}
 use Rattle.row.specs.Lent.{LentKey, LentTarget}
 use Rattle.row.proofs.ElementLaws.{fits-le, fits-all, holds-value, holds-held}
 use Rattle.key.specs.Key.{keySlices, degree}

@@ -1,15 +1,17 @@
 use mathlib.Core.List.{[], _∷_}
 use lib.Bits.{bitOr}
+use borrow.Author.Tests.{eq-eqb}
 use Rattle.lists.specs.Lent.{long}
+use Rattle.lists.proofs.Lent.{each-long}
 use Rattle.refusal.specs.Answer.{firstOf}
 use Rattle.refusal.specs.declared.Answer.the-variants.{Done}
 use Rattle.refusal.proofs.Answers.{after-refused, none}
 use Rattle.field.specs.Level.{FIRST, levelAt}
 use Rattle.key.specs.declared.Code.the-variants.{Column}
-use Rattle.key.specs.Key.{keySlices, keyWithin, lengths, sizes, Sized, below, withins, checks}
-use Rattle.key.proofs.Sized.{sized}
+use Rattle.key.specs.Key.{keySlices, lengths, sizes, Sized, below, withins, checks}
+use Rattle.key.proofs.Sized.{sized, first-matrix}
 use Rattle.key.proofs.Fine.{withins-more, withins-last}
-use Rattle.key.proofs.Checked.{told, told-length}
+use Rattle.key.proofs.Checked.{told, told-key, told-length}
 use Rattle.verifier.specs.Entry.{verifyLent}
 use mathlib.Core.Path.{_≡_, refl, sym, _∙_}
 use borrow.Author.Needs.{needs}
@@ -32,7 +34,7 @@ enum-told c = search needs
 returns : tie.Need-returns
 returns c =
     let a = c .before .before .before .before .before .before .before .before .before .before .before .before .args in
-    after-refused (sizes (levelAt FIRST) (a .key)) (checks (long (verifyLent (lengths (levelAt FIRST) (a .key)) (keySlices (a .h .now) (a .x .now) (a .y .now)) (a .t .now) (a .q .now) (a .delta .now) (a .masks .now) (a .alpha .now) (a .a .now))) (keyWithin (levelAt FIRST) (keySlices (a .h .now) (a .x .now) (a .y .now))) (below 1 (a .t .now)) (withins (levelAt FIRST) (a .q .now ∷ a .delta .now ∷ a .masks .now ∷ a .alpha .now ∷ a .a .now ∷ [])) Column) (c .before .before .sizes .ensures) (c .enum-told .given .1)
+    after-refused (sizes (levelAt FIRST) (a .key)) (checks (levelAt FIRST) (a .key) (long (verifyLent (lengths (levelAt FIRST) (a .key)) (keySlices (a .h .now) (a .x .now) (a .y .now)) (a .t .now) (a .q .now) (a .delta .now) (a .masks .now) (a .alpha .now) (a .a .now))) (keySlices (a .h .now) (a .x .now) (a .y .now)) (below 1 (a .t .now)) (withins (levelAt FIRST) (a .q .now ∷ a .delta .now ∷ a .masks .now ∷ a .alpha .now ∷ a .a .now ∷ [])) Column) (c .before .before .sizes .ensures) (c .enum-told .given .1)
 
 enum-told-2 : tie.Need-enum-told-2
 enum-told-2 c = search needs
@@ -43,8 +45,28 @@ lengths-requires c κs = is-sized c
 returns-2 : tie.Need-returns-2
 returns-2 c =
     let a = c .before .before .before .before .before .before .before .before .before .before .before .before .before .before .args in
-    told-length (levelAt FIRST) (a .key) (long (verifyLent (lengths (levelAt FIRST) (a .key)) (keySlices (a .h .now) (a .x .now) (a .y .now)) (a .t .now) (a .q .now) (a .delta .now) (a .masks .now) (a .alpha .now) (a .a .now))) (keyWithin (levelAt FIRST) (keySlices (a .h .now) (a .x .now) (a .y .now))) (below 1 (a .t .now)) (withins (levelAt FIRST) (a .q .now ∷ a .delta .now ∷ a .masks .now ∷ a .alpha .now ∷ a .a .now ∷ [])) Column []
+    told-length (levelAt FIRST) (a .key) (long (verifyLent (lengths (levelAt FIRST) (a .key)) (keySlices (a .h .now) (a .x .now) (a .y .now)) (a .t .now) (a .q .now) (a .delta .now) (a .masks .now) (a .alpha .now) (a .a .now))) (keySlices (a .h .now) (a .x .now) (a .y .now)) (below 1 (a .t .now)) (withins (levelAt FIRST) (a .q .now ∷ a .delta .now ∷ a .masks .now ∷ a .alpha .now ∷ a .a .now ∷ [])) Column []
     (passed (c .before .before)) (c .before .lengths .result) (c .before .lengths .ensures) (c .if1 .taken)
+
+-- past the lengths
+contents-requires : tie.Need-contents-requires
+contents-requires c κs =
+    let s = is-sized (c .before .before) in
+    let a = c .before .before .before .before .before .before .before .before .before .before .before .before .before .before .args in
+    (s, each-long (verifyLent (lengths (levelAt FIRST) (a .key)) (keySlices (a .h .now) (a .x .now) (a .y .now)) (a .t .now) (a .q .now) (a .delta .now) (a .masks .now) (a .alpha .now) (a .a .now)) (sym (c .before .lengths .ensures) ∙ eq-eqb (c .before .lengths .result) 0 (c .if1 .left)) .0, first-matrix (a .key) s)
+
+enum-told-3 : tie.Need-enum-told-3
+enum-told-3 c = search needs
+
+returns-3 : tie.Need-returns-3
+returns-3 c =
+    let a = c .before .before .before .before .before .before .before .before .before .before .before .before .before .before .before .before .before .args in
+    let e = c .before .before .before in
+    told-key (levelAt FIRST) (a .key) (long (verifyLent (lengths (levelAt FIRST) (a .key)) (keySlices (a .h .now) (a .x .now) (a .y .now)) (a .t .now) (a .q .now) (a .delta .now) (a .masks .now) (a .alpha .now) (a .a .now))) (keySlices (a .h .now) (a .x .now) (a .y .now)) (below 1 (a .t .now)) (withins (levelAt FIRST) (a .q .now ∷ a .delta .now ∷ a .masks .now ∷ a .alpha .now ∷ a .a .now ∷ [])) Column []
+    (passed (e .before .before)) (e .before .lengths .result) (e .before .lengths .ensures) (e .if1 .left) (c .before .before .contents .ensures) (c .enum-told3 .given .1)
+
+enum-told-4 : tie.Need-enum-told-4
+enum-told-4 c = search needs
 
 excess-requires : tie.Need-excess-requires
 excess-requires c κs = search needs
@@ -61,23 +83,21 @@ excess-requires-4 c κs = search needs
 excess-requires-5 : tie.Need-excess-requires-5
 excess-requires-5 c κs = search needs
 
-excess-requires-6 : tie.Need-excess-requires-6
-excess-requires-6 c κs = search needs
-
 over-requires : tie.Need-over-requires
 over-requires c κs = search needs
 
-contents-requires : tie.Need-contents-requires
-contents-requires c κs = search needs
+material-requires : tie.Need-material-requires
+material-requires c κs = search needs
 
-returns-3 : tie.Need-returns-3
-returns-3 c =
-    let a = c .before .before .before .before .before .before .before .before .before .before .before .before .before .before .before .before .before .before .before .before .before .before .args in
-    told (levelAt FIRST) (a .key) (long (verifyLent (lengths (levelAt FIRST) (a .key)) (keySlices (a .h .now) (a .x .now) (a .y .now)) (a .t .now) (a .q .now) (a .delta .now) (a .masks .now) (a .alpha .now) (a .a .now))) (keyWithin (levelAt FIRST) (keySlices (a .h .now) (a .x .now) (a .y .now))) (below 1 (a .t .now)) (withins (levelAt FIRST) (a .q .now ∷ a .delta .now ∷ a .masks .now ∷ a .alpha .now ∷ a .a .now ∷ [])) Column
-    (passed (c .before .before .before .before .before .before .before .before .before .before)) (c .before .before .before .before .before .before .before .before .before .lengths .result) (c .before .before .before .before .before .before .before .before .before .lengths .ensures) (c .before .before .before .before .before .before .before .before .if1 .left) (c .contents .ensures)
-    (c .before .before .before .before .before .before .before .excess .ensures)
+returns-4 : tie.Need-returns-4
+returns-4 c =
+    let a = c .before .before .before .before .before .before .before .before .before .before .before .before .before .before .before .before .before .before .before .before .before .before .before .before .args in
+    let e = c .before .before .before .before .before .before .before .before .before .before in
+    let f = c .before .before .before .before .before .before .before in
+    told (levelAt FIRST) (a .key) (long (verifyLent (lengths (levelAt FIRST) (a .key)) (keySlices (a .h .now) (a .x .now) (a .y .now)) (a .t .now) (a .q .now) (a .delta .now) (a .masks .now) (a .alpha .now) (a .a .now))) (keySlices (a .h .now) (a .x .now) (a .y .now)) (below 1 (a .t .now)) (withins (levelAt FIRST) (a .q .now ∷ a .delta .now ∷ a .masks .now ∷ a .alpha .now ∷ a .a .now ∷ [])) Column
+    (passed (e .before .before)) (e .before .lengths .result) (e .before .lengths .ensures) (e .if1 .left) (sym (f .before .before .contents .ensures) ∙ f .enum-told4 .given .1) (c .material .ensures)
     (c .before .over .ensures)
-    (withins-more (levelAt FIRST) (a .q .now) (a .delta .now ∷ a .masks .now ∷ a .alpha .now ∷ a .a .now ∷ []) (c .before .before .before .before .before .before .excess2 .result) (bitOr (c .before .before .before .before .before .excess3 .result) (bitOr (c .before .before .before .before .excess4 .result) (bitOr (c .before .before .before .excess5 .result) (c .before .before .excess6 .result)))) (c .before .before .before .before .before .before .excess2 .ensures) (withins-more (levelAt FIRST) (a .delta .now) (a .masks .now ∷ a .alpha .now ∷ a .a .now ∷ []) (c .before .before .before .before .before .excess3 .result) (bitOr (c .before .before .before .before .excess4 .result) (bitOr (c .before .before .before .excess5 .result) (c .before .before .excess6 .result))) (c .before .before .before .before .before .excess3 .ensures) (withins-more (levelAt FIRST) (a .masks .now) (a .alpha .now ∷ a .a .now ∷ []) (c .before .before .before .before .excess4 .result) (bitOr (c .before .before .before .excess5 .result) (c .before .before .excess6 .result)) (c .before .before .before .before .excess4 .ensures) (withins-more (levelAt FIRST) (a .alpha .now) (a .a .now ∷ []) (c .before .before .before .excess5 .result) (c .before .before .excess6 .result) (c .before .before .before .excess5 .ensures) (withins-last (levelAt FIRST) (a .a .now) (c .before .before .excess6 .result) (c .before .before .excess6 .ensures))))))
+    (withins-more (levelAt FIRST) (a .q .now) (a .delta .now ∷ a .masks .now ∷ a .alpha .now ∷ a .a .now ∷ []) (c .before .before .before .before .before .before .excess .result) (bitOr (c .before .before .before .before .before .excess2 .result) (bitOr (c .before .before .before .before .excess3 .result) (bitOr (c .before .before .before .excess4 .result) (c .before .before .excess5 .result)))) (c .before .before .before .before .before .before .excess .ensures) (withins-more (levelAt FIRST) (a .delta .now) (a .masks .now ∷ a .alpha .now ∷ a .a .now ∷ []) (c .before .before .before .before .before .excess2 .result) (bitOr (c .before .before .before .before .excess3 .result) (bitOr (c .before .before .before .excess4 .result) (c .before .before .excess5 .result))) (c .before .before .before .before .before .excess2 .ensures) (withins-more (levelAt FIRST) (a .masks .now) (a .alpha .now ∷ a .a .now ∷ []) (c .before .before .before .before .excess3 .result) (bitOr (c .before .before .before .excess4 .result) (c .before .before .excess5 .result)) (c .before .before .before .before .excess3 .ensures) (withins-more (levelAt FIRST) (a .alpha .now) (a .a .now ∷ []) (c .before .before .before .excess4 .result) (c .before .before .excess5 .result) (c .before .before .before .excess4 .ensures) (withins-last (levelAt FIRST) (a .a .now) (c .before .before .excess5 .result) (c .before .before .excess5 .ensures))))))
     refl
 
 pub refused-spec : {M : Type 1} → statement M
@@ -90,12 +110,15 @@ refused-spec =
     enum-told-2
     lengths-requires
     returns-2
+    contents-requires
+    enum-told-3
+    returns-3
+    enum-told-4
     excess-requires
     excess-requires-2
     excess-requires-3
     excess-requires-4
     excess-requires-5
-    excess-requires-6
     over-requires
-    contents-requires
-    returns-3)
+    material-requires
+    returns-4)

@@ -1,4 +1,4 @@
-use Rattle.field.specs.Level.{FIRST, levelAt}
+use Rattle.field.specs.Level.{FIRST}
 use Rattle.key.specs.Key.{keySlices}
 use Rattle.verifier.proofs.Judged.{told}
 use mathlib.Core.Path.{refl, sym, _∙_}
@@ -22,17 +22,17 @@ enum-known-refusal c = search needs
 returns : tie.Need-returns
 returns c =
     let a = c .before .before .before .before .before .before .before .before .before .before .before .before .before .before .args in
-    told (levelAt FIRST) (a .key) (keySlices (a .h .now) (a .x .now) (a .y .now)) (a .t .now) (a .q .now) (a .delta .now) (a .masks .now) (a .alpha .now) (a .a .now) (c .before .before .before .before .refused .ensures) (c .before .before .enum-told .given .1) (c .before .work .ensures) (eq-eqb (c .before .work .result) 0 (c .if1 .taken)) refl
+    told FIRST (a .key) (keySlices (a .h .now) (a .x .now) (a .y .now)) (a .t .now) (a .q .now) (a .delta .now) (a .masks .now) (a .alpha .now) (a .a .now) (c .before .before .before .before .refused .ensures) (c .before .before .enum-told .given .1) (c .before .work .ensures) (eq-eqb (c .before .work .result) 0 (c .if1 .taken)) refl
 
 returns-2 : tie.Need-returns-2
 returns-2 c =
     let a = c .before .before .before .before .before .before .before .before .before .before .before .before .before .before .args in
-    told (levelAt FIRST) (a .key) (keySlices (a .h .now) (a .x .now) (a .y .now)) (a .t .now) (a .q .now) (a .delta .now) (a .masks .now) (a .alpha .now) (a .a .now) (c .before .before .before .before .refused .ensures) (c .before .before .enum-told .given .1) (c .before .work .ensures) (ne-eqb (c .before .work .result) 0 (c .if1 .left)) refl
+    told FIRST (a .key) (keySlices (a .h .now) (a .x .now) (a .y .now)) (a .t .now) (a .q .now) (a .delta .now) (a .masks .now) (a .alpha .now) (a .a .now) (c .before .before .before .before .refused .ensures) (c .before .before .enum-told .given .1) (c .before .work .ensures) (ne-eqb (c .before .work .result) 0 (c .if1 .left)) refl
 
 returns-3 : tie.Need-returns-3
 returns-3 c =
     let a = c .before .before .before .before .before .before .before .before .before .before .before .before .before .args in
-    told (levelAt FIRST) (a .key) (keySlices (a .h .now) (a .x .now) (a .y .now)) (a .t .now) (a .q .now) (a .delta .now) (a .masks .now) (a .alpha .now) (a .a .now) (c .before .before .before .refused .ensures) (c .before .refusal .given .1) refl refl refl
+    told FIRST (a .key) (keySlices (a .h .now) (a .x .now) (a .y .now)) (a .t .now) (a .q .now) (a .delta .now) (a .masks .now) (a .alpha .now) (a .a .now) (c .before .before .before .refused .ensures) (c .before .refusal .given .1) refl refl refl
 
 pub verify-spec : {M : Type 1} → statement M
 verify-spec =

@@ -6,7 +6,7 @@ use super::files::fields::{
 };
 use super::files::{self, groups, table, File, Reader, BYTES};
 use super::readers::{self, key_a};
-use super::{keyed, verify, witnesses, DONE, REJECTED};
+use super::{keyed, verify, witnesses, DEPENDENT, DONE, REJECTED};
 use crate::case::{Case, Entry, Group, Table};
 use crate::kinds::Kind;
 use crate::lent::Lent;
@@ -15,7 +15,7 @@ use crate::named::Named;
 use reference::key::elements_of_k;
 use reference::large_field::{COORDINATES, K};
 use reference::package::{check_fields, join, package_fields, tag, WrittenField};
-use reference::samples::{self, Generator, Sample};
+use reference::samples::{self, Generator, Leaning, Sample};
 use reference::Verdict;
 
 /// The check of a check file.
@@ -64,7 +64,9 @@ pub const CHECK: Entry = Entry {
         },
     }),
     groups: || {
-        let own = vec![EXAMPLES, HONEST, TARGETS, CHANGED, EVERY_BIT, ZEROS];
+        let own = vec![
+            EXAMPLES, HONEST, LEANING, TARGETS, CHANGED, EVERY_BIT, ZEROS,
+        ];
         [own, groups::fault_groups::<Check>()].concat()
     },
     ..readers::ENTRY
@@ -225,6 +227,30 @@ const HONEST: Group = Group::new(
         }
     },
 );
+
+/// Files that would be accepted, but for their rows.
+pub const LEANING: Group = Group::new(
+    "n to 12, proofs that hold, rows of H that lean",
+    |generator, each| {
+        for n in 2..=12 {
+            for m in 1..n {
+                for leaning in Leaning::of(m) {
+                    let sample = verify::sample(n, m, Kind::Random, generator);
+                    let fields = leaning_fields(&sample.leaning(leaning, generator));
+                    each(of_fields(&fields, Some(DEPENDENT), generator));
+                }
+            }
+        }
+    },
+)
+.with_any_rows();
+
+/// The fields of the check file of a sample whose rows lean, with the t and the a
+/// that would be accepted.
+pub fn leaning_fields(sample: &Sample) -> Vec<WrittenField> {
+    let (t, a) = sample.unjudged_proof().expect("material within its limits");
+    sample.fields_with(&t, &a)
+}
 
 const CHANGED: Group = Group::new(
     "n to 20 and larger, one bit changed in each field, no refusal",

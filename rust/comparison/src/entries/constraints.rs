@@ -3,6 +3,7 @@
 use super::codes;
 use super::faults::fault_groups;
 use super::keyed::{self, after_key, fill, of_sample, set_key, Keyed};
+use super::leaning;
 use super::rounds::{self, InRounds, Round};
 use super::witnesses::{self, two_indices};
 use super::{number, stated, stated_element, DONE};
@@ -59,10 +60,11 @@ pub const CONSTRAINTS: Entry = Entry {
         ];
         let rounds = rounds::groups::<Constraints>();
         let taken = codes::TAKEN.to_vec();
-        [own, rounds, taken, fault_groups::<Constraints>()].concat()
+        let leaning = leaning::groups::<Constraints>();
+        [own, rounds, taken, leaning, fault_groups::<Constraints>()].concat()
     },
     table: Some(keyed::table::<Constraints>()),
-    least: rounds::least,
+    least: || [rounds::least(), leaning::least()].concat(),
     ..keyed::ENTRY
 };
 

@@ -1,12 +1,13 @@
-//! The groups of cases with faults, for every entry that takes a key.
+//! The groups of cases with faults, for every entry that takes a key, and for
+//! rank.
 
 use super::keyed::{of_sizes, sizes, Keyed, EVERY_N};
 use crate::case::{decided, Case, Group};
 use crate::kinds::Kind;
-use crate::slices::{self, Elements, M, N, POSITIONS};
+use crate::slices::{self, Elements, H, M, N, POSITIONS};
 use reference::key::Sizes;
 use reference::large_field::COORDINATES;
-use reference::samples::Generator;
+use reference::samples::{Generator, Leaning};
 use reference::small_field::F;
 use reference::Refusal;
 use std::collections::BTreeSet;
@@ -33,6 +34,8 @@ pub enum Fault {
     Length(&'static str, usize),
     /// The input with this name has, in this place, this value.
     Element(&'static str, usize, u16),
+    /// The rows of H lean on each other in this way.
+    Lean(Leaning),
     /// The position in this place is this spare code.
     Spare(usize, u16),
 }
@@ -45,19 +48,21 @@ impl Fault {
             Fault::Number(..) => Refusal::SizeN,
             Fault::Length(..) => Refusal::SliceLength,
             Fault::Element(name, ..) => slices::named(name).elements.refusal(),
+            Fault::Lean(_) => Refusal::DependentRows,
             Fault::Spare(..) => Refusal::SpareCode,
         }
     }
 
     /// Its place in the order in which an entry decides.
-    fn rank<E: Keyed>(self) -> usize {
+    fn order<E: Keyed>(self) -> usize {
         let refusal = self.refusal();
-        let rank = E::REFUSALS.iter().position(|&other| other == refusal);
-        rank.expect("a refusal of the entry")
+        let order = E::REFUSALS.iter().position(|&other| other == refusal);
+        order.expect("a refusal of the entry")
     }
 
     /// Puts the fault into a case with d digits. A place that the slice doesn't
-    /// have becomes its last one. A position that is too large stays.
+    /// have becomes its last one. A position that is too large stays. Rows lean
+    /// where the sizes and H have no other fault yet.
     fn apply<E: Keyed>(self, case: &mut Case, d: usize, generator: &mut Generator) {
         match self {
             Fault::Number(name, number) => case.numbers[name] = number,
@@ -75,6 +80,10 @@ impl Fault {
                     input.set(place.min(input.len() - 1), value);
                 }
             }
+            Fault::Lean(leaning) => {
+                let n = case.numbers[N];
+                leaning.make(case.inputs[H].words_mut(), n, generator);
+            }
             Fault::Spare(place, code) => {
                 let positions = &mut case.inputs[POSITIONS];
                 let place = place.min(positions.len().saturating_sub(1));
@@ -87,7 +96,8 @@ impl Fault {
 }
 
 /// The case with these faults; the refusal that is decided first is the answer.
-/// With no fault the answer stays.
+/// With no fault the answer stays. Rows of H that lean are made before the other
+/// faults, so that these stand in or beside such rows.
 pub fn with_faults<E: Keyed>(
     case: &Case,
     d: usize,
@@ -96,8 +106,10 @@ pub fn with_faults<E: Keyed>(
 ) -> Case {
     let mut case = case.clone();
     let mut faults = faults.to_vec();
-    faults.sort_by_key(|fault| fault.rank::<E>());
-    for fault in &faults {
+    faults.sort_by_key(|fault| fault.order::<E>());
+    let leaning = |fault: &&Fault| matches!(fault, Fault::Lean(_));
+    let others = faults.iter().filter(|fault| !leaning(fault));
+    for fault in faults.iter().filter(leaning).chain(others) {
         fault.apply::<E>(&mut case, d, generator);
     }
     if let Some(first) = faults.first() {
@@ -180,7 +192,10 @@ fn faults<E: Keyed>(sizes: Sizes, many: bool, generator: &mut Generator) -> Vec<
             list.extend(values.map(fault));
         }
     }
-    let Sizes { n, d, .. } = sizes;
+    let Sizes { n, m, d } = sizes;
+    if E::REFUSALS.contains(&Refusal::DependentRows) {
+        list.extend(Leaning::of(m).map(Fault::Lean));
+    }
     if E::REFUSALS.contains(&Refusal::SpareCode) && n < 1 << d {
         for place in [0, n - 1, generator.below(n)] {
             list.extend([n, (1 << d) - 1].map(|code| Fault::Spare(place, code as u16)));
@@ -247,6 +262,7 @@ pub fn one_fault<E: Keyed>() -> Group {
             }
         }
     })
+    .with_any_rows()
 }
 
 /// A value above the limit in each place of each input.
@@ -269,7 +285,7 @@ fn every_place<E: Keyed>() -> Group {
 
 /// Two faults of different refusals, for all pairs of faults: the one that is
 /// decided first is the answer.
-fn two_faults<E: Keyed>() -> Group {
+pub fn two_faults<E: Keyed>() -> Group {
     Group::new("two faults", |generator, each| {
         for (n, m) in [(2, 1), (5, 2), (64, 27)] {
             let sizes = sizes(n, m);
@@ -277,7 +293,7 @@ fn two_faults<E: Keyed>() -> Group {
             let list = faults::<E>(sizes, false, generator);
             for early in &list {
                 for late in &list {
-                    if early.rank::<E>() < late.rank::<E>() {
+                    if early.order::<E>() < late.order::<E>() {
                         let both = [*late, *early];
                         each(with_faults::<E>(&case, sizes.d, &both, generator));
                     }
@@ -285,6 +301,7 @@ fn two_faults<E: Keyed>() -> Group {
             }
         }
     })
+    .with_any_rows()
 }
 
 /// Up to four faults at any sizes; small ones also without a fault.
@@ -307,4 +324,5 @@ fn random_faults<E: Keyed>() -> Group {
             each(with_faults::<E>(&case, sizes.d, &faults, generator));
         }
     })
+    .with_any_rows()
 }

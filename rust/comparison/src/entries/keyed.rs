@@ -1,5 +1,5 @@
-//! What the entries that take a key have in common: their slices, their
-//! refusals, and cases that no refusal applies to.
+//! What the entries that take a key, or of a key n, m and H alone, have in
+//! common: their slices, their refusals, and cases that no refusal applies to.
 
 use super::DONE;
 use crate::case::{Case, Cell, Entry, Rows, Table, Taken};
@@ -8,16 +8,20 @@ use crate::lent::Lent;
 use crate::named::Named;
 use crate::slices::{self, Slice, KEY, M, N, Y};
 use reference::key::{number_of_digits, Sizes};
-use reference::samples::{Generator, Sample};
+use reference::samples::{Generator, Leaning, Sample};
 use reference::small_field::F;
 use reference::Refusal;
 
 /// An entry that takes a key, then other slices.
 pub trait Keyed: Sized {
+    /// The slices of the key that it reads.
+    const OF_KEY: &'static [&'static str] = KEY;
     /// The slices that it reads after those of the key.
     const READS: &'static [&'static str];
     /// The slices that it writes.
     const WRITES: &'static [&'static str];
+    /// The sizes that it writes, after the slices.
+    const SIZES: &'static [&'static str] = &[];
     /// The answers that are no refusal.
     const DONE: &'static [u32] = &[DONE];
     /// The refusals in the order in which they are decided.
@@ -28,9 +32,15 @@ pub trait Keyed: Sized {
         of_sizes::<Self>(sizes, generator).answering(Some(DONE))
     }
 
+    /// A case that no refusal before 15 applies to, with rows of H that lean in
+    /// this way.
+    fn leaning(sizes: Sizes, leaning: Leaning, generator: &mut Generator) -> Case {
+        super::leaning::of_right::<Self>(sizes, leaning, generator)
+    }
+
     /// The slices that it reads, those of the key first.
     fn inputs() -> Vec<Slice> {
-        let names = KEY.iter().chain(Self::READS);
+        let names = Self::OF_KEY.iter().chain(Self::READS);
         names.map(|name| slices::named(name)).collect()
     }
 
@@ -61,7 +71,7 @@ pub const ENTRY: Entry = Entry {
 };
 
 /// The refusals of an entry in the order in which they are decided: those of a
-/// key that isn't well formed, then its own.
+/// key that isn't well formed, of which 15 comes last, then its own.
 macro_rules! after_key {
     ($($own:ident),*) => {
         &[
@@ -69,6 +79,7 @@ macro_rules! after_key {
             Refusal::SizeM,
             Refusal::SliceLength,
             Refusal::KeyElement,
+            Refusal::DependentRows,
             $(Refusal::$own),*
         ]
     };
@@ -76,12 +87,18 @@ macro_rules! after_key {
 
 pub(super) use after_key;
 
-/// The refusals that are decided before the rows of H could be judged.
-const OF_KEY: &[Refusal] = after_key!();
+/// The refusals that are decided before the rows of H are judged. They are those
+/// of rank.
+pub const BEFORE_ROWS: &[Refusal] = &[
+    Refusal::SizeN,
+    Refusal::SizeM,
+    Refusal::SliceLength,
+    Refusal::KeyElement,
+];
 
 /// n and H of a call whose answer is none of these.
 fn rows_of_key(taken: &Taken, answer: u32) -> Option<(usize, Vec<u16>)> {
-    let before = OF_KEY.iter().any(|refusal| refusal.number() == answer);
+    let before = BEFORE_ROWS.iter().any(|refusal| refusal.number() == answer);
     let key = taken.key();
     (!before).then(|| (key.n, key.h.to_vec()))
 }
@@ -188,7 +205,11 @@ fn with_inputs<E: Keyed>(
     let inputs = inputs.collect();
     let outputs = E::outputs().into_iter();
     let outputs = outputs.map(|slice| (slice.name, slice.any((slice.length)(sizes), generator)));
-    Case::new(numbers(sizes), inputs, outputs.collect())
+    let mut outputs: Named<Lent> = outputs.collect();
+    for name in E::SIZES {
+        outputs.push(name, Lent::any_size(generator));
+    }
+    Case::new(numbers(sizes), inputs, outputs)
 }
 
 /// A case with slices of the lengths of these sizes and random content, which

@@ -1,7 +1,7 @@
 //! The entries that are compared.
 //!
-//! - [`codes`], [`keyed`], [`faults`], [`lengths`], [`rounds`] and [`witnesses`]:
-//!   what the entries that take a key have in common;
+//! - [`codes`], [`keyed`], [`faults`], [`leaning`], [`lengths`], [`rounds`] and
+//!   [`witnesses`]: what the entries that take a key have in common;
 //! - [`files`]: what the entries that take the bytes of a file have in common;
 //! - the others: one entry, or a few of one form.
 
@@ -18,17 +18,19 @@ pub mod faults;
 pub mod field;
 pub mod files;
 pub mod keyed;
+pub mod leaning;
 pub mod lengths;
 pub mod package_field;
 pub mod prove;
+pub mod rank;
 pub mod readers;
 pub mod rounds;
 pub mod values;
 pub mod verify;
 pub mod witnesses;
 
-/// All entries, in the order of the specification, then the check of perkcheck, demand
-/// 3 and completeness.
+/// All entries, in the order of the specification, then rank, the check of
+/// perkcheck, demand 3 and completeness.
 pub const ALL: &[Entry] = &[
     field::SUM,
     field::PRODUCT,
@@ -39,6 +41,7 @@ pub const ALL: &[Entry] = &[
     readers::READ_PACKAGE,
     readers::READ_CHECK_FILE,
     package_field::FIELD,
+    rank::RANK,
     check::CHECK,
     demand_3::BOTH_FACTS,
     completeness::COMPLETENESS,
@@ -49,6 +52,10 @@ const DONE: u32 = 0;
 
 /// 8: "some top coefficient of the n + m polynomials isn't zero".
 const TOP: u32 = 8;
+
+/// 15: "when some coefficients from F, not all zero, combine the rows of H to
+/// zero".
+const DEPENDENT: u32 = 15;
 
 /// 16: "when prove is lent a spare code and none is too large".
 const SPARE: u32 = 16;

@@ -7,9 +7,9 @@
 
 use super::files::faults::set_value;
 use super::files::fields::{
-    any_fields, serial_field, serials_about_powers, set_serial, walked, HEAD,
+    any_fields, lean, serial_field, serials_about_powers, set_serial, walked, HEAD,
 };
-use super::files::{self, groups, File, Reader, BYTES};
+use super::files::{self, groups, leaning, File, Reader, BYTES};
 use super::{keyed, readers, stated, DONE};
 use crate::case::{Case, Entry, Group, Table};
 use crate::lent::Lent;
@@ -96,6 +96,10 @@ pub const FIELD: Entry = Entry {
             groups::one_fault::<PackageField>(),
             groups::serials::<PackageField>(),
             groups::targets::<PackageField>(),
+            leaning::whole_files::<PackageField>(),
+            leaning::beside_other_faults::<PackageField>(),
+            leaning::after_x::<PackageField>(),
+            leaning::prefixes::<PackageField>(),
             groups::two_faults::<PackageField>(),
             groups::order::<PackageField>(),
             groups::short::<PackageField>(),
@@ -211,14 +215,18 @@ const ALL_TAGS_REFUSED: Group = Group::new("refused packages, all tags", |genera
         let mut fields = File::Package.part(&any_fields(n, m, generator)).to_vec();
         let bytes = join(&fields);
         let longer = [&bytes[..], &[0]].concat();
+        let mut leaning = fields.clone();
+        lean(&mut leaning, generator);
         let h = index_of(&fields, tag::H);
         set_value(&mut fields, h, 0, false, generator);
-        for bytes in [&join(&fields), &bytes[..bytes.len() - 1], &longer] {
+        let [above, leaning] = [join(&fields), join(&leaning)];
+        for bytes in [&above, &bytes[..bytes.len() - 1], &longer, &leaning] {
             without_fields(bytes, generator, each);
         }
     }
     without_fields(&[], generator, each);
-});
+})
+.with_any_rows();
 
 const ALL_TAGS_CHECK_FILE: Group = Group::new("check files, all tags", |generator, each| {
     for n in TRIED {

@@ -3,6 +3,7 @@
 use super::codes::{self, ONE_SPARE, ONE_TOO_LARGE};
 use super::faults::{fault_groups, one_fault};
 use super::keyed::{self, after_key, of_sample, Keyed};
+use super::leaning;
 use super::lengths::empty_slices;
 use super::rounds::{self, InRounds, Round};
 use super::witnesses::{self, two_indices, OnWitness, Witness};
@@ -14,7 +15,7 @@ use crate::library;
 use crate::named::Named;
 use crate::slices::{A, ALPHA, POSITIONS, R, S, T, U, V};
 use reference::key::Sizes;
-use reference::samples::{Generator, Sample};
+use reference::samples::{Generator, Leaning, Sample};
 use reference::small_field::F;
 use reference::{Key, Refusal};
 
@@ -30,6 +31,12 @@ impl Keyed for Prove {
     fn right(sizes: Sizes, generator: &mut Generator) -> Case {
         let sample = Sample::solving(sizes.n, sizes.m, generator);
         case(&sample, Some(DONE), generator)
+    }
+
+    /// The positions still solve the key.
+    fn leaning(sizes: Sizes, leaning: Leaning, generator: &mut Generator) -> Case {
+        let sample = Sample::solving(sizes.n, sizes.m, generator);
+        case(&sample.leaning(leaning, generator), None, generator)
     }
 }
 
@@ -96,7 +103,8 @@ pub const PROVE: Entry = Entry {
             empty_slices::<Unsolved>().named("empty slices, positions that do not solve the key"),
         ];
         let rounds = rounds::groups::<Prove>();
-        [own, rounds, fault_groups::<Prove>()].concat()
+        let leaning = leaning::groups::<Prove>();
+        [own, rounds, leaning, fault_groups::<Prove>()].concat()
     },
     least: || {
         let unsolved = Least {
@@ -106,7 +114,8 @@ pub const PROVE: Entry = Entry {
             answer: TOP,
             count: 12,
         };
-        [rounds::least(), codes::least(), vec![unsolved]].concat()
+        let of_rows = leaning::least();
+        [rounds::least(), codes::least(), of_rows, vec![unsolved]].concat()
     },
     table: Some(keyed::table::<Prove>()),
     ..keyed::ENTRY

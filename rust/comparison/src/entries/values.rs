@@ -2,6 +2,7 @@
 
 use super::faults::fault_groups;
 use super::keyed::{self, after_key, of_kinds, of_sample, set_key, sizes_of, Keyed};
+use super::leaning;
 use super::rounds::{self, InRounds, Round};
 use super::{number, stated_element, DONE};
 use crate::case::{Case, Entry, Group, Taken};
@@ -48,10 +49,11 @@ pub const VALUES: Entry = Entry {
     groups: || {
         let own = vec![EXAMPLES, HONEST, ANY_NUMBERS, SMALL_N, EXTREMES, ALL_T];
         let rounds = rounds::groups::<Values>();
-        [own, rounds, fault_groups::<Values>()].concat()
+        let leaning = leaning::groups::<Values>();
+        [own, rounds, leaning, fault_groups::<Values>()].concat()
     },
     table: Some(keyed::table::<Values>()),
-    least: rounds::least,
+    least: || [rounds::least(), leaning::least()].concat(),
     ..keyed::ENTRY
 };
 

@@ -11,7 +11,8 @@ pub mod tally;
 use crate::case::{Case, Entry, Expected, Group};
 use call::{alter, called, description, difference, expected_fault};
 use reference::samples::{independent, Generator};
-use std::collections::HashSet;
+use reference::Refusal;
+use std::collections::HashMap;
 use std::hash::{DefaultHasher, Hash, Hasher};
 use tally::{answer_faults, answers, table_lines, Cells, OfSizes, Tally};
 
@@ -20,6 +21,10 @@ const ALL_JUDGED: usize = 32;
 
 /// A fault of a case.
 const DEPENDENT: &str = "rows of H depend on each other";
+
+/// A fault of an answer: 15 where rows of H do not depend on each other, or
+/// another where they do.
+const NOT_BY_ROWS: &str = "15 does not say whether rows of H depend on each other";
 
 /// A run over all entries.
 pub struct Run {
@@ -38,9 +43,9 @@ pub struct Run {
     calls: usize,
     /// Calls of the library that ended without a refusal.
     done: usize,
-    /// The matrices H, by their hashes, whose rows were judged: many cases have
-    /// the same H.
-    judged: HashSet<u64>,
+    /// The matrices H, by their hashes, whose rows were judged, and whether they
+    /// depend on each other: many cases have the same H.
+    judged: HashMap<u64, bool>,
     passed: usize,
     failed: usize,
 }
@@ -78,26 +83,28 @@ impl Run {
             unaltered: 0,
             calls: 0,
             done: 0,
-            judged: HashSet::new(),
+            judged: HashMap::new(),
             passed: 0,
             failed: 0,
         }
     }
 
-    /// Whether rows of H are found to depend on each other. Each H is judged
-    /// once, and of the large ones, which take long, about one in four.
-    fn dependent(&mut self, n: usize, h: &[u16]) -> bool {
+    /// Whether rows of H depend on each other, by another method than that of the
+    /// entries. Each H is judged once, and of the large ones, which take long,
+    /// about one in four; none where it isn't judged.
+    fn dependent(&mut self, n: usize, h: &[u16]) -> Option<bool> {
         let mut hasher = DefaultHasher::new();
         (n, h).hash(&mut hasher);
         let hash = hasher.finish();
         let in_turn = n <= ALL_JUDGED || hash.is_multiple_of(4);
-        in_turn && self.judged.insert(hash) && !independent(h, n)
+        let judged = self.judged.entry(hash);
+        in_turn.then(|| *judged.or_insert_with(|| !independent(h, n)))
     }
 
-    /// What is wrong with the rows of H of a case with this answer: every key
-    /// that no refusal of its sizes, slices and elements applies to must have
-    /// rows that do not depend on each other, in all groups but those that say
-    /// otherwise.
+    /// What is wrong with the rows of H of a case with this answer. A key that no
+    /// refusal of its sizes, slices and elements applies to must have rows that do
+    /// not depend on each other, in all groups but those that say otherwise; and
+    /// where an entry can answer 15, it does so exactly when they do.
     fn fault_of_rows(
         &mut self,
         entry: &Entry,
@@ -105,10 +112,14 @@ impl Run {
         case: &Case,
         answer: u32,
     ) -> Option<String> {
-        let find = entry.rows.filter(|_| !group.any_rows)?;
-        let (n, h) = find(&case.taken, answer)?;
-        let dependent = self.dependent(n, &h);
-        dependent.then(|| DEPENDENT.to_string())
+        let (n, h) = entry.rows?(&case.taken, answer)?;
+        let dependent = self.dependent(n, &h)?;
+        if dependent && !group.any_rows {
+            return Some(DEPENDENT.to_string());
+        }
+        let tells = entry.refusals.contains(&Refusal::DependentRows);
+        let told = answer == Refusal::DependentRows.number();
+        (tells && told != dependent).then(|| NOT_BY_ROWS.to_string())
     }
 
     /// Calls the library and the expected side with one case, and alters a word

@@ -1,11 +1,12 @@
 //! The program perkcheck and the test vectors.
 
 use super::tally::answers;
-use super::{generator_of, Run, DEPENDENT};
+use super::{generator_of, Run, DEPENDENT, NOT_BY_ROWS};
 use crate::case::Entry;
 use crate::entries::files::rows_of_bytes;
 use crate::program;
 use crate::vectors::{self, Outcome, Setting};
+use reference::Refusal;
 use std::collections::BTreeMap;
 use std::path::Path;
 
@@ -46,13 +47,17 @@ impl Run {
         let mut tally = Lines::new();
         let mut differences = 0;
         let mut dependent = 0;
+        let mut not_by_rows = 0;
         let mut files = 0;
         let mut generator = generator_of(self.seed, program::NAME, group.name);
         (group.files)(&mut generator, &mut |generator, file| {
             let mut expected = reference::perkcheck_line(&file.bytes);
             *tally.entry(program::kind(&expected)).or_default() += 1;
-            if let Some((n, h)) = rows_of_bytes(&file.bytes).filter(|_| !group.any_rows) {
-                dependent += usize::from(self.dependent(n, &h));
+            let rows = rows_of_bytes(&file.bytes);
+            if let Some(found) = rows.and_then(|(n, h)| self.dependent(n, &h)) {
+                dependent += usize::from(found && !group.any_rows);
+                let told = program::kind(&expected) == program::refused(Refusal::DependentRows);
+                not_by_rows += usize::from(told != found);
             }
             let spoiled = self.spoil.is_some() && files == 0;
             if spoiled {
@@ -85,6 +90,9 @@ impl Run {
         }
         if dependent > 0 {
             faults.push(format!("{dependent} times {DEPENDENT}"));
+        }
+        if not_by_rows > 0 {
+            faults.push(format!("{not_by_rows} times {NOT_BY_ROWS}"));
         }
         let text = format!(
             "{}, {}: {files} files, lines {}",

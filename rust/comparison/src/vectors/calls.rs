@@ -71,7 +71,7 @@ impl Comparison<'_> {
     }
 
     /// A slice of words to read.
-    fn words(&mut self, list: &List) -> Lent {
+    pub fn words(&mut self, list: &List) -> Lent {
         Lent::with_words(&list.words16(), self.generator)
     }
 
@@ -165,7 +165,7 @@ impl Comparison<'_> {
     }
 
     /// A times b plus c is the result.
-    fn product_and_sum(
+    pub fn product_and_sum(
         &mut self,
         [a, b, c]: [&[u16]; 3],
         result: Option<&List>,
@@ -211,7 +211,7 @@ impl Comparison<'_> {
 
     /// An entry that takes a key, with these slices; its outputs are as long as
     /// theirs. What it writes is stated by them, where no answer is.
-    fn keyed<E: Keyed>(
+    pub fn keyed<E: Keyed>(
         &mut self,
         name: &str,
         [n, m]: [usize; 2],

@@ -5,11 +5,13 @@
 //! - [`list`]: words with their places in a file;
 //! - [`text`]: reads a text file;
 //! - `calls`: the calls, and what is compared after each;
-//! - `files`: the check files.
+//! - `files`: the check files;
+//! - `ranks`: the file of ranks, and keys whose rows lean on each other.
 
 mod calls;
 mod files;
 pub mod list;
+mod ranks;
 pub mod text;
 
 use crate::case::Entry;
@@ -45,10 +47,12 @@ fn text_name(n: usize, m: usize) -> String {
     format!("n{n:02}_m{m:02}.txt")
 }
 
-/// The files that are compared: the text files and the check file of key A.
+/// The files that are compared: the text files, that of ranks, and the check file
+/// of key A.
 pub fn names() -> Vec<String> {
     let texts = SIZES.iter().map(|&(n, m)| text_name(n, m));
-    texts.chain([KEY_A.to_string()]).collect()
+    let others = [ranks::NAME, KEY_A].map(str::to_string);
+    texts.chain(others).collect()
 }
 
 /// Files in the directory that are not compared.
@@ -134,10 +138,10 @@ pub fn compare(
         generator,
         outcome: Outcome::default(),
     };
-    let mut result = if name == KEY_A {
-        comparison.key_a(content)
-    } else {
-        comparison.text_file(name, content)
+    let mut result = match name {
+        KEY_A => comparison.key_a(content),
+        ranks::NAME => comparison.ranks(content),
+        _ => comparison.text_file(name, content),
     };
     let mut outcome = comparison.outcome;
     if result.is_ok() && outcome.words == 0 {
@@ -160,7 +164,8 @@ impl Comparison<'_> {
         self.prove(&text, &text.solving, None)?;
         self.witness(&text, &text.wrong)?;
         self.prove(&text, &text.wrong, Some(&text.wrong_prove))?;
-        self.files(&text)
+        self.files(&text)?;
+        self.leaning(&text)
     }
 
     /// The check file of key A.

@@ -33,6 +33,28 @@ pub struct Witness {
     pub value: List,
 }
 
+/// Another H and y that the same positions solve, with rows that lean on each
+/// other.
+#[derive(Clone, Debug)]
+pub struct Leaning {
+    /// The matrix.
+    pub h: List,
+    /// The target.
+    pub y: List,
+    /// The rank of the matrix.
+    pub rank: List,
+    /// The matrix that rank writes.
+    pub matrix: List,
+    /// The refusal of constraints.
+    pub constraints: List,
+    /// The refusal of prove.
+    pub prove: List,
+    /// The refusal of values.
+    pub values: List,
+    /// The refusal of verify.
+    pub verify: List,
+}
+
 /// The content of a text file.
 #[derive(Clone, Debug)]
 pub struct Text {
@@ -84,6 +106,12 @@ pub struct Text {
     pub wrong: Witness,
     /// The refusal of prove for it.
     pub wrong_prove: List,
+    /// The rank of the matrix.
+    pub rank: List,
+    /// The matrix that rank writes.
+    pub matrix: List,
+    /// The key with rows that lean on each other.
+    pub leaning: Leaning,
 }
 
 impl Text {
@@ -109,6 +137,15 @@ impl Text {
         ])
     }
 
+    /// The slices of the witness that solves the key, with the H and the y of the
+    /// one whose rows lean.
+    pub fn leaning_slices(&self) -> Named<&List> {
+        let mut slices = self.slices(&self.solving);
+        slices[slices::H] = &self.leaning.h;
+        slices[slices::Y] = &self.leaning.y;
+        slices
+    }
+
     /// The sizes n and m.
     pub fn sizes(&self) -> [usize; 2] {
         [self.n.value(0), self.m.value(0)]
@@ -117,7 +154,7 @@ impl Text {
 
 /// The forms of values.
 #[derive(Clone, Copy)]
-enum Form {
+pub enum Form {
     /// A decimal number up to the largest of 32 bits.
     Decimal,
     /// A decimal number up to 255.
@@ -142,7 +179,7 @@ impl Form {
 }
 
 /// The lines that are still to be read.
-struct Lines<'a> {
+pub struct Lines<'a> {
     /// The words of each line.
     lines: Vec<Vec<&'a str>>,
     /// How many were read.
@@ -151,7 +188,7 @@ struct Lines<'a> {
 
 impl<'a> Lines<'a> {
     /// The lines of a text.
-    fn new(text: &'a str) -> Result<Lines<'a>, String> {
+    pub fn new(text: &'a str) -> Result<Lines<'a>, String> {
         let Some(all) = text.strip_suffix('\n') else {
             return Err("no line feed at the end".to_string());
         };
@@ -167,12 +204,12 @@ impl<'a> Lines<'a> {
     }
 
     /// The name of the next line; none at the end.
-    fn next_name(&self) -> Option<&'a str> {
+    pub fn next_name(&self) -> Option<&'a str> {
         self.lines.get(self.read).map(|words| words[0])
     }
 
     /// The values of the next line, which has this name, and its number.
-    fn next(&mut self, name: &str) -> Result<(usize, Vec<&'a str>), String> {
+    pub fn next(&mut self, name: &str) -> Result<(usize, Vec<&'a str>), String> {
         let line = self.read + 1;
         match self.next_name() {
             Some(found) if found == name => {
@@ -185,7 +222,7 @@ impl<'a> Lines<'a> {
     }
 
     /// Adds the values of a line to a list.
-    fn add(
+    pub fn add(
         list: &mut List,
         line: usize,
         values: &[&str],
@@ -211,7 +248,7 @@ impl<'a> Lines<'a> {
     }
 
     /// A name with one line.
-    fn single(&mut self, name: &'static str, count: usize, form: Form) -> Result<List, String> {
+    pub fn single(&mut self, name: &'static str, count: usize, form: Form) -> Result<List, String> {
         let words = Vec::new();
         let mut list = List { name, words };
         let (line, values) = self.next(name)?;
@@ -220,7 +257,7 @@ impl<'a> Lines<'a> {
     }
 
     /// A name with this many numbered lines.
-    fn numbered(
+    pub fn numbered(
         &mut self,
         name: &'static str,
         lines: usize,
@@ -263,6 +300,14 @@ impl<'a> Lines<'a> {
     fn line(&mut self, name: &'static str) -> Result<Line, String> {
         let (line, values) = self.next(name)?;
         Line::new(name, line, 0, &values)
+    }
+
+    /// No line is left.
+    pub fn end(&self) -> Result<(), String> {
+        match self.next_name() {
+            Some(found) => error(self.read + 1, format!("the end expected, {found} found")),
+            None => Ok(()),
+        }
     }
 
     /// All changes of one byte, at least one.
@@ -355,9 +400,19 @@ pub fn parsed(text: &str) -> Result<Text, String> {
             value: lines.numbered("wrong_value", n + m, 1, Form::K)?,
         },
         wrong_prove: lines.single("wrong_prove", 1, Form::Decimal)?,
+        rank: lines.single("rank", 1, Form::Small)?,
+        matrix: lines.numbered("matrix", m, n, Form::F)?,
+        leaning: Leaning {
+            h: lines.numbered("leaning_h", m, n, Form::F)?,
+            y: lines.single("leaning_y", m, Form::F)?,
+            rank: lines.single("leaning_rank", 1, Form::Small)?,
+            matrix: lines.numbered("leaning_matrix", m, n, Form::F)?,
+            constraints: lines.single("leaning_constraints", 1, Form::Decimal)?,
+            prove: lines.single("leaning_prove", 1, Form::Decimal)?,
+            values: lines.single("leaning_values", 1, Form::Decimal)?,
+            verify: lines.single("leaning_verify", 1, Form::Decimal)?,
+        },
     };
-    match lines.next_name() {
-        Some(found) => error(lines.read + 1, format!("the end expected, {found} found")),
-        None => Ok(content),
-    }
+    lines.end()?;
+    Ok(content)
 }

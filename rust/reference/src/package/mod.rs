@@ -9,7 +9,7 @@ pub use written::{
     write_check_file, write_package, y_field, WrittenField,
 };
 
-use crate::key::{bits, elements_of_f, elements_of_k, Sizes};
+use crate::key::{bits, elements_of_f, elements_of_k, judge_rows, rows, Sizes};
 use crate::refusal::Refusal;
 use crate::small_field::F;
 use stated::FIELDS;
@@ -176,6 +176,11 @@ fn judge_values(kind: Kind, content: &[u8], sizes: Sizes) -> Result<Sizes, Refus
     }
 }
 
+/// 15 of the content of field 02, whose elements are judged before.
+fn judge_rows_of(content: &[u8], sizes: Sizes) -> Result<(), Refusal> {
+    judge_rows(&rows(&elements_of_f(&words(content))?, sizes.n))
+}
+
 /// Accepted bytes.
 struct Judged<'a> {
     bytes: &'a [u8],
@@ -184,9 +189,18 @@ struct Judged<'a> {
     found: Vec<(u8, Range<usize>)>,
 }
 
+/// Where the content of the field with this tag stands; 0..0 when there is no
+/// such field.
+fn range_of(found: &[(u8, Range<usize>)], tag: u8) -> Range<usize> {
+    let field = found.iter().find(|(found, _)| *found == tag);
+    field.map_or(0..0, |(_, content)| content.clone())
+}
+
 impl<'a> Judged<'a> {
     /// Judges the bytes: "the readers instead run places P1 to P5 for each
-    /// field in turn, then P6".
+    /// field in turn, then P6". The rows of H are judged "after all checks of
+    /// field 03 or, where the next byte is 04, of field 04", among the values of
+    /// that field.
     fn of(bytes: &'a [u8], fields: &[Stated]) -> Result<Judged<'a>, Refused> {
         let at = |tag| {
             move |(place, refusal)| Refused {
@@ -198,17 +212,23 @@ impl<'a> Judged<'a> {
         let mut pieces = split(bytes).into_iter().peekable();
         // No length depends on the sizes before 01 tells them.
         let mut sizes = Sizes { n: 0, m: 0, d: 0 };
-        let mut found = Vec::new();
+        let mut found: Vec<(u8, Range<usize>)> = Vec::new();
         for field in fields {
             let there = |piece: &Piece| piece.starts_with(field.tag);
-            if field.optional && !pieces.peek().is_some_and(there) {
-                continue;
+            if !field.optional || pieces.peek().is_some_and(there) {
+                let at = at(Some(field.tag));
+                let content = judge_head_and_length(pieces.next(), field, sizes).map_err(at)?;
+                sizes = judge_values(field.kind, &bytes[content.clone()], sizes)
+                    .map_err(|refusal| at((Place::Values, refusal)))?;
+                found.push((field.tag, content));
             }
-            let at = at(Some(field.tag));
-            let content = judge_head_and_length(pieces.next(), field, sizes).map_err(at)?;
-            sizes = judge_values(field.kind, &bytes[content.clone()], sizes)
-                .map_err(|refusal| at((Place::Values, refusal)))?;
-            found.push((field.tag, content));
+            // The key ends with y, whether it is there or not.
+            if field.kind == Kind::Target {
+                let h = range_of(&found, tag::H);
+                let last = found.last().map(|&(tag, _)| tag);
+                judge_rows_of(&bytes[h], sizes)
+                    .map_err(|refusal| at(last)((Place::Values, refusal)))?;
+            }
         }
 
         // P6: "bytes follow the last field".
@@ -235,8 +255,7 @@ impl<'a> Judged<'a> {
     /// Where the content of the field with this tag stands; 0..0 when there is
     /// no such field.
     fn range(&self, tag: u8) -> Range<usize> {
-        let field = self.found.iter().find(|(found, _)| *found == tag);
-        field.map_or(0..0, |(_, content)| content.clone())
+        range_of(&self.found, tag)
     }
 
     /// n, m and the serial.

@@ -58,6 +58,15 @@ impl Generator {
         independent_rows(m, || self.words(n))
     }
 
+    /// A target y of m words 0 to 2047, not all zero.
+    pub fn target(&mut self, m: usize) -> Vec<u16> {
+        let mut y = self.words(m);
+        if y.iter().all(|&word| word == 0) {
+            y[m - 1] = 1;
+        }
+        y
+    }
+
     /// Bytes 0 or 1.
     pub fn bits(&mut self, count: usize) -> Vec<u8> {
         (0..count).map(|_| self.below(2) as u8).collect()

@@ -1,16 +1,19 @@
 //! Seeded test data: a generator of numbers, and keys with material.
 
 mod generator;
+mod leaning;
 mod lent;
 mod rows;
 
 pub use generator::Generator;
+pub use leaning::{combination, Leaning};
 pub use lent::{Lent, Material};
 pub use rows::{
-    in_order, independent, independent_rows, orthogonal_row, quotient, solved, times, unit_rows,
+    in_order, independent, independent_rows, joined_rows, orthogonal_row, quotient, solved, times,
+    unit_rows,
 };
 
-use crate::entries::{constraints, prove, values, verify, Verdict};
+use crate::entries::{constraints, prove, rank, values, verify, Verdict};
 use crate::key::{elements_of_k, Key, Sizes};
 use crate::large_field::{COORDINATES, K};
 use crate::package::{check_fields, join, package_fields, WrittenField};
@@ -315,12 +318,24 @@ impl Sample {
         verify(self.key(), t, q, delta, masks, alpha, a)
     }
 
+    /// What rank answers, and the matrix that it writes.
+    pub fn rank(&self) -> Result<(usize, Vec<u16>), Refusal> {
+        let mut matrix = self.room("matrix", u16::MAX);
+        let rank = rank(self.n, self.m, &self.h, &mut matrix)?;
+        Ok((rank, matrix))
+    }
+
+    /// The fields of the check file with this t and this a.
+    pub fn fields_with(&self, t: &[u8], a: &[u16]) -> Vec<WrittenField> {
+        let mut fields = package_fields(self.key(), self.serial, t, a);
+        fields.extend(check_fields(&self.q, &self.masks, &self.delta, &self.alpha));
+        fields
+    }
+
     /// The fields of the check file with the proof of this sample.
     pub fn fields(&self) -> Result<Vec<WrittenField>, Refusal> {
         let (t, a) = self.proof()?;
-        let mut fields = package_fields(self.key(), self.serial, &t, &a);
-        fields.extend(check_fields(&self.q, &self.masks, &self.delta, &self.alpha));
-        Ok(fields)
+        Ok(self.fields_with(&t, &a))
     }
 
     /// The check file with the proof of this sample.

@@ -1,12 +1,11 @@
-//! Rows of H: orders that solve them, and rows that do not depend on each
-//! other.
+//! Rows of H: orders that solve them, and rows that do not lean on each other.
 
 use super::Generator;
 use crate::key::Key;
 use crate::small_field::F;
 
 /// The element of F with this number, which is at most 2047.
-fn small(word: u16) -> F {
+pub fn small(word: u16) -> F {
     F::from_word(word).expect("a word up to 2047")
 }
 
@@ -100,6 +99,13 @@ impl Independent {
 pub fn independent(h: &[u16], n: usize) -> bool {
     let mut rows = Independent::default();
     h.chunks(n).all(|row| rows.join(row))
+}
+
+/// The number of rows of H that are no sums of multiples of those before them.
+/// It is the rank, found in another way than that of the entry rank.
+pub fn joined_rows(h: &[u16], n: usize) -> usize {
+    let mut rows = Independent::default();
+    h.chunks(n).filter(|row| rows.join(row)).count()
 }
 
 /// m rows of H that do not depend on each other. Each is drawn, and drawn again

@@ -34,6 +34,7 @@ impl Cases {
         cases.larger_key(&sample(5, 2));
         cases.serials(&Sample::key_a());
         cases.targets();
+        cases.leaning();
         cases.ends(&key_a);
         cases.long(&key_a);
         cases.largest();

@@ -56,6 +56,13 @@ impl Fields {
         Fields(sample.fields().expect("the sample is solved"))
     }
 
+    /// The fields of a check file with t and a as prove makes them, also where
+    /// the rows of H lean on each other.
+    pub fn unjudged(sample: &Sample) -> Fields {
+        let (t, a) = sample.unjudged_proof().expect("words up to 2047");
+        Fields(sample.fields_with(&t, &a))
+    }
+
     /// The tags in their order.
     pub fn tags(&self) -> Vec<u8> {
         self.0.iter().map(|field| field.tag).collect()

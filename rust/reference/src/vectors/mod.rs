@@ -4,6 +4,8 @@
 mod cases;
 mod faults;
 mod fields;
+mod leaning;
+pub mod rank;
 mod serials;
 mod targets;
 mod text;
@@ -12,7 +14,7 @@ pub use cases::{Case, Cases};
 
 use crate::examples;
 use crate::field_cases;
-use crate::samples::{Generator, Sample};
+use crate::samples::{Generator, Leaning, Sample};
 
 /// A file: its path below `vectors/`, with `/` between names, and its bytes.
 pub type File = (String, Vec<u8>);
@@ -30,6 +32,7 @@ pub fn all() -> Vec<File> {
     for (n, m) in SIZES {
         files.push((text_name(n, m), text::text(&sample(n, m)).into_bytes()));
     }
+    files.push((rank::NAME.to_string(), rank::text().into_bytes()));
     files.extend(Cases::all().files());
     let cases = field_cases::Cases::all();
     files.push(("field_cases/stdin".to_string(), cases.stdin()));
@@ -74,6 +77,15 @@ const LONG_SERIALS: [((usize, usize), u32); 2] = [((3, 1), 2_718_281_828), ((64,
 /// The sizes of keys with a target: those of text files, and that of the largest
 /// file.
 pub const TARGETS: [(usize, usize); 4] = [(5, 2), (17, 8), (64, 27), (64, 63)];
+
+/// How the rows of the second H of a text file lean.
+fn leaning_of(n: usize, m: usize) -> Leaning {
+    match (n, m) {
+        (_, 1) | (17, 8) => Leaning::ZeroRow,
+        (5, 2) | (64, 27) => Leaning::Multiple,
+        _ => Leaning::Sum,
+    }
+}
 
 /// The solving sample of a size.
 fn sample(n: usize, m: usize) -> Sample {

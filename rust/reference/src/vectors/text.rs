@@ -1,13 +1,13 @@
 //! The text files: a sample and what the entries answer for it.
 
-use super::generator;
+use super::{generator, leaning_of};
 use crate::large_field::COORDINATES;
 use crate::package::{head_start, join, tag, WrittenField, HEAD};
 use crate::perkcheck::perkcheck_line;
 use crate::samples::{Generator, Sample};
 
 /// Elements of F, four hexadecimal digits each.
-fn small_elements(words: &[u16]) -> String {
+pub fn small_elements(words: &[u16]) -> String {
     words.iter().map(|word| format!(" {word:04x}")).collect()
 }
 
@@ -29,7 +29,7 @@ fn decimal(bytes: &[u8]) -> String {
 
 /// One line for each row: the name, the number of the row and what `show`
 /// makes of the row.
-fn row_lines<T>(name: &str, list: &[T], width: usize, show: fn(&[T]) -> String) -> String {
+pub fn row_lines<T>(name: &str, list: &[T], width: usize, show: fn(&[T]) -> String) -> String {
     list.chunks(width)
         .enumerate()
         .map(|(index, row)| format!("{name} {index}{}\n", show(row)))
@@ -120,9 +120,42 @@ fn check_file_lines(fields: &[WrittenField]) -> String {
     text
 }
 
+/// The lines of the rank and of the cleared form, their names after a prefix.
+fn rank_lines(sample: &Sample, prefix: &str) -> String {
+    let (rank, matrix) = sample.rank().expect("no refusal applies");
+    let text = format!("{prefix}rank {rank}\n");
+    text + &row_lines(
+        &format!("{prefix}matrix"),
+        &matrix,
+        sample.n,
+        small_elements,
+    )
+}
+
+/// The lines of another H and y for the same key, which the positions solve too,
+/// but the rows lean on each other: the refusals of all entries but rank.
+fn leaning_lines(sample: &Sample, t: &[u8], a: &[u16]) -> String {
+    let Sample { n, m, .. } = *sample;
+    let generator = &mut generator(n + 100, m);
+    let leaning = sample.leaning(leaning_of(n, m), generator);
+    let mut text = row_lines("leaning_h", &leaning.h, n, small_elements);
+    text += &format!("leaning_y{}\n", small_elements(&leaning.y));
+    text += &rank_lines(&leaning, "leaning_");
+    for (entry, answer) in [
+        ("constraints", leaning.constraints().map(|_| ())),
+        ("prove", leaning.proof().map(|_| ())),
+        ("values", leaning.values(t).map(|_| ())),
+        ("verify", leaning.verdict(t, a).map(|_| ())),
+    ] {
+        let refusal = answer.expect_err("the rows lean");
+        text += &format!("leaning_{entry} {}\n", refusal.number());
+    }
+    text
+}
+
 /// The text file of a sample.
 pub fn text(sample: &Sample) -> String {
-    let (_, a) = sample.proof().expect("the sample is solved");
+    let (t, a) = sample.proof().expect("the sample is solved");
     let fields = sample.fields().expect("the sample is solved");
     let mut text = input_lines(sample) + &modelled_lines(sample, "");
     text += &row_lines("a", &a, COORDINATES, large_elements);
@@ -132,5 +165,7 @@ pub fn text(sample: &Sample) -> String {
     text += &format!("wrong_positions{}\n", decimal(&wrong.positions));
     text += &modelled_lines(&wrong, "wrong_");
     let refusal = wrong.proof().expect_err("the positions solve nothing");
-    text + &format!("wrong_prove {}\n", refusal.number())
+    text += &format!("wrong_prove {}\n", refusal.number());
+    text += &rank_lines(sample, "");
+    text + &leaning_lines(sample, &t, &a)
 }

@@ -334,7 +334,8 @@ fn coefficients_of_one_row() {
 #[test]
 fn numbers_of_the_refusals() {
     let numbers = Refusal::ALL.map(Refusal::number);
-    assert_eq!(numbers, [1, 2, 3, 4, 5, 6, 7, 8, 9, 10, 11, 12, 14, 16, 19]);
+    let stated = [1, 2, 3, 4, 5, 6, 7, 8, 9, 10, 11, 12, 14, 15, 16, 19];
+    assert_eq!(numbers, stated);
 }
 
 /// The lines of `examples_run` that the specification states.

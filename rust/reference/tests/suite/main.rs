@@ -6,6 +6,7 @@ mod examples;
 mod field_cases;
 mod fields;
 mod proofs;
+mod rank;
 mod readers;
 mod refusals;
 mod vectors;

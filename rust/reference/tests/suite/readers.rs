@@ -2,9 +2,9 @@
 
 use reference::package::{
     check_file_field, field_of, head_start, index_of, join, package_of, package_part, serial_bytes,
-    tag, WrittenField, CHECK_FILE_TAGS, HEAD, PACKAGE_TAGS,
+    tag, words, y_field, WrittenField, CHECK_FILE_TAGS, HEAD, PACKAGE_TAGS,
 };
-use reference::samples::{Generator, Sample};
+use reference::samples::{independent, Generator, Leaning, Sample};
 use reference::vectors::Cases;
 use reference::{
     check, field, field_range, judge_check_file, judge_package, perkcheck_line, read_check_file,
@@ -20,6 +20,7 @@ type Plain = Result<(usize, usize, u32), (u32, u32, u8)>;
 /// field where it stands.
 fn walk(bytes: &[u8], check_file: bool) -> Plain {
     let (mut n, mut m, mut d, mut serial) = (0, 0, 0, 0);
+    let mut h = Vec::new();
     let mut at = 0;
     let mut next = Some(tag::SIZES);
     while let Some(stated) = next {
@@ -59,7 +60,8 @@ fn walk(bytes: &[u8], check_file: bool) -> Plain {
             }
             tag::H | tag::X | tag::Y if high => return Err((4, 5, stated)),
             tag::Y if content.iter().all(|&byte| byte == 0) => return Err((14, 5, stated)),
-            tag::H | tag::X | tag::Y => {}
+            tag::H => h = words(content),
+            tag::X | tag::Y => {}
             tag::SERIAL => match *content {
                 [0, 0, _, _] => return Err((19, 5, stated)),
                 [a, b, c, d] => serial = u32::from_be_bytes([a, b, c, d]),
@@ -74,6 +76,11 @@ fn walk(bytes: &[u8], check_file: bool) -> Plain {
         next = after(stated, check_file);
         if stated == tag::X && bytes.get(at) == Some(&tag::Y) {
             next = Some(tag::Y);
+        }
+        // The key ends here.
+        let of_key = [tag::X, tag::Y].contains(&stated);
+        if of_key && next == Some(tag::SERIAL) && !independent(&h, n) {
+            return Err((15, 5, stated));
         }
     }
     if at < bytes.len() {
@@ -139,6 +146,16 @@ fn set_y(fields: &mut Vec<WrittenField>, content: Vec<u8>) {
     fields.insert(place, WrittenField::new(tag::Y, content));
 }
 
+/// Sets the content of the field H to rows that lean on each other; the length
+/// stays.
+fn set_leaning(fields: &mut [WrittenField], n: usize, generator: &mut Generator) {
+    let field = field_of(fields, tag::H);
+    let mut h = words(&field.content);
+    let ways: Vec<Leaning> = Leaning::of(h.len() / n).collect();
+    ways[generator.below(ways.len())].make(&mut h, n, generator);
+    field.content = h.iter().flat_map(|word| word.to_be_bytes()).collect();
+}
+
 /// Serials with their only form.
 const SERIALS: [(u32, &[u8]); 12] = [
     (0, &[0, 0]),
@@ -201,6 +218,11 @@ fn both_readers_agree_with_a_second_reader() {
                     let y = (0..2 * sample.m).map(|_| generator.below(2) as u8);
                     set_y(&mut part, y.collect());
                 }
+                4 => set_leaning(&mut part, sample.n, &mut generator),
+                5 => {
+                    set_leaning(&mut part, sample.n, &mut generator);
+                    set_y(&mut part, vec![0; 2 * sample.m]);
+                }
                 _ => {}
             }
             let starts: Vec<usize> = part.iter().map(|f| head_start(&part, f.tag)).collect();
@@ -221,7 +243,7 @@ fn both_readers_agree_with_a_second_reader() {
     }
     for answers in [package_answers, check_answers] {
         let numbers: BTreeSet<u32> = answers.keys().copied().collect();
-        let stated = BTreeSet::from([0, 1, 2, 4, 5, 6, 9, 10, 11, 12, 14, 19]);
+        let stated = BTreeSet::from([0, 1, 2, 4, 5, 6, 9, 10, 11, 12, 14, 15, 19]);
         assert_eq!(numbers, stated, "{answers:?}");
         assert!(answers.values().all(|&count| count >= 30), "{answers:?}");
     }
@@ -381,6 +403,103 @@ fn a_target_is_there_or_not() {
     assert!(perkcheck_line(&join(&rest)).ends_with(" rejected\n"));
 }
 
+/// 15 where the key ends: after x, or after y where the byte after x is 04.
+#[test]
+fn leaning_rows_are_refused_where_the_key_ends() {
+    let mut generator = Generator::new(45);
+    let mut ways = 0;
+    for (n, m) in [(2, 1), (3, 2), (5, 3), (9, 8)] {
+        for (leaning, target) in Leaning::of(m).flat_map(|one| [(one, false), (one, true)]) {
+            let sample = Sample::solving(n, m, &mut generator).leaning(leaning, &mut generator);
+            let (t, a) = sample.unjudged_proof().expect("words up to 2047");
+            let mut fields = sample.fields_with(&t, &a);
+            fields.retain(|field| field.tag != tag::Y);
+            let last = if target {
+                fields.insert(index_of(&fields, tag::X) + 1, y_field(&generator.target(m)));
+                tag::Y
+            } else {
+                tag::X
+            };
+            let file = join(&fields);
+            let answers = |bytes: &[u8]| [judge_package(bytes), judge_check_file(bytes)].map(plain);
+            let refused = |bytes: &[u8], number, place, tag| {
+                let stated = Err((number, place, tag));
+                assert_eq!(
+                    answers(bytes),
+                    [stated, stated],
+                    "{leaning:?}, {bytes:02x?}"
+                );
+            };
+            let leans = |bytes: &[u8]| refused(bytes, 15, 5, last);
+            leans(&file);
+            leans(&join(package_part(&fields)));
+            assert_eq!(perkcheck_line(&file), "refused 15\n");
+            assert_eq!(field_range(&join(package_part(&fields)), tag::X), 0..0);
+            // The bytes end at the key or later, other than by a lone 04.
+            let end = head_start(&fields, tag::SERIAL);
+            for length in end..file.len() {
+                leans(&file[..length]);
+            }
+            for byte in (0..=255).filter(|&byte| target || byte != tag::Y) {
+                for rest in [&[byte][..], &[byte, 0], &[byte, 0, 2], &[byte, 255, 255, 0]] {
+                    leans(&[&file[..end], rest].concat());
+                }
+            }
+            // The bytes end before: 9 of the field that is cut, but for the end of x.
+            let after_x = head_start(&fields, tag::X) + HEAD + 2 * n;
+            for length in (0..end).filter(|&length| length != after_x) {
+                let [Err((9, _, tag)), _] = answers(&file[..length]) else {
+                    panic!("{leaning:?}, {length} bytes");
+                };
+                assert!(head_start(&fields, tag) <= length);
+            }
+            let key = &file[..after_x];
+            refused(key, 15, 5, tag::X);
+            // Field 04 before the rows: its head, length, content and values.
+            let with = |rest: &[u8]| [key, rest].concat();
+            let length = [0, 2 * m as u8];
+            let zeros = vec![0; 2 * m - 1];
+            refused(&with(&[4]), 9, 1, tag::Y);
+            refused(&with(&[4, 0]), 9, 1, tag::Y);
+            refused(&with(&[4, 0, 0]), 11, 3, tag::Y);
+            refused(
+                &with(&[&[4, 0, 2 * n as u8][..], &[0; 9]].concat()),
+                11,
+                3,
+                tag::Y,
+            );
+            refused(&with(&[&[4][..], &length, &zeros].concat()), 9, 4, tag::Y);
+            refused(
+                &with(&[&[4][..], &length, &zeros, &[0]].concat()),
+                14,
+                5,
+                tag::Y,
+            );
+            refused(
+                &with(&[&[4][..], &length, &[8], &zeros].concat()),
+                4,
+                5,
+                tag::Y,
+            );
+            refused(
+                &with(&[&[4][..], &length, &zeros, &[1]].concat()),
+                15,
+                5,
+                tag::Y,
+            );
+            // Another tag there is none of the key.
+            refused(
+                &with(&[&[0x84][..], &length, &zeros].concat()),
+                15,
+                5,
+                tag::X,
+            );
+            ways += 1;
+        }
+    }
+    assert_eq!(ways, 2 * (2 + 3 + 4 + 4));
+}
+
 #[test]
 fn fields_of_packages() {
     for sample in samples() {
@@ -501,11 +620,13 @@ fn the_cases_have_every_answer() {
         };
         *answers.entry(answer).or_default() += 1;
     }
-    for answer in ["1", "2", "4", "5", "6", "9", "10", "11", "12", "14", "19"] {
+    for answer in [
+        "1", "2", "4", "5", "6", "9", "10", "11", "12", "14", "15", "19",
+    ] {
         assert!(answers[answer] >= 5, "{answer}: {answers:?}");
     }
     assert!(answers["accepted"] >= 5 && answers["rejected"] >= 5);
-    assert_eq!(answers.len(), 13, "{answers:?}");
+    assert_eq!(answers.len(), 14, "{answers:?}");
     let cuts = cases
         .list()
         .iter()

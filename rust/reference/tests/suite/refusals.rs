@@ -2,7 +2,7 @@
 //! their order, and outputs that stay as they were.
 
 use reference::large_field::COORDINATES;
-use reference::samples::{independent, Generator, Lent, Material, Sample};
+use reference::samples::{independent, Generator, Leaning, Lent, Material, Sample};
 use reference::Refusal;
 use std::collections::BTreeSet;
 
@@ -13,6 +13,7 @@ struct Outputs {
     polynomials: Vec<u16>,
     a: Vec<u16>,
     values: Vec<u16>,
+    matrix: Vec<u16>,
 }
 
 impl Outputs {
@@ -23,6 +24,7 @@ impl Outputs {
             ("polynomials_out", Lent::Words(&mut self.polynomials)),
             ("a_out", Lent::Words(&mut self.a)),
             ("values_out", Lent::Words(&mut self.values)),
+            ("matrix_out", Lent::Words(&mut self.matrix)),
         ]
     }
 }
@@ -45,6 +47,7 @@ impl Call {
                 polynomials: words("polynomials"),
                 a: words("a"),
                 values: words("values"),
+                matrix: words("matrix"),
             },
             inputs: Material::of(sample),
         }
@@ -78,7 +81,9 @@ impl Call {
 /// An entry with a key.
 struct Entry {
     name: &'static str,
-    /// The slices that it reads beside those of the key.
+    /// The slices of the key that it reads.
+    key: &'static [&'static str],
+    /// The slices that it reads beside those.
     inputs: &'static [&'static str],
     /// The slices that it writes.
     outputs: &'static [&'static str],
@@ -90,12 +95,13 @@ struct Entry {
 /// The slices of the key.
 const KEY: [&str; 3] = ["h", "x", "y"];
 
-const ENTRIES: [Entry; 4] = [
+const ENTRIES: [Entry; 5] = [
     Entry {
         name: "constraints",
+        key: &KEY,
         inputs: &["positions", "u", "v"],
         outputs: &["t_out", "polynomials_out"],
-        order: &[1, 2, 3, 4, 5, 6, 7],
+        order: &[1, 2, 3, 4, 15, 5, 6, 7],
         run: |Call { inputs, outputs }| {
             let k = &inputs.sample;
             let (t, polynomials) = (&mut outputs.t, &mut outputs.polynomials);
@@ -104,9 +110,10 @@ const ENTRIES: [Entry; 4] = [
     },
     Entry {
         name: "prove",
+        key: &KEY,
         inputs: &["positions", "u", "v", "r", "s", "alpha"],
         outputs: &["t_out", "a_out"],
-        order: &[1, 2, 3, 4, 5, 6, 7, 16, 8],
+        order: &[1, 2, 3, 4, 15, 5, 6, 7, 16, 8],
         run: |Call { inputs, outputs }| {
             let k = &inputs.sample;
             let (r, s, alpha) = (&k.r, &k.s, &k.alpha);
@@ -116,9 +123,10 @@ const ENTRIES: [Entry; 4] = [
     },
     Entry {
         name: "values",
+        key: &KEY,
         inputs: &["t", "q", "delta"],
         outputs: &["values_out"],
-        order: &[1, 2, 3, 4, 5, 6],
+        order: &[1, 2, 3, 4, 15, 5, 6],
         run: |Call { inputs, outputs }| {
             let k = &inputs.sample;
             reference::values(k.key(), &inputs.t, &k.q, &k.delta, &mut outputs.values)
@@ -126,12 +134,24 @@ const ENTRIES: [Entry; 4] = [
     },
     Entry {
         name: "verify",
+        key: &KEY,
         inputs: &["t", "q", "delta", "masks", "alpha", "a"],
         outputs: &[],
-        order: &[1, 2, 3, 4, 5, 6],
+        order: &[1, 2, 3, 4, 15, 5, 6],
         run: |Call { inputs, .. }| {
             let Material { sample, t, a } = inputs;
             sample.verdict(t, a).map(|_| ())
+        },
+    },
+    Entry {
+        name: "rank",
+        key: &["h"],
+        inputs: &[],
+        outputs: &["matrix_out"],
+        order: &[1, 2, 3, 4],
+        run: |Call { inputs, outputs }| {
+            let Sample { n, m, h, .. } = &inputs.sample;
+            reference::rank(*n, *m, h, &mut outputs.matrix).map(|_| ())
         },
     },
 ];
@@ -139,7 +159,7 @@ const ENTRIES: [Entry; 4] = [
 impl Entry {
     /// All slices, those of the key first.
     fn slices(&self) -> impl Iterator<Item = &'static str> {
-        let lists = [&KEY[..], self.inputs, self.outputs];
+        let lists = [self.key, self.inputs, self.outputs];
         lists.into_iter().flatten().copied()
     }
 
@@ -229,6 +249,18 @@ fn spare_faults(n: usize, d: usize) -> Vec<Fault> {
     list
 }
 
+/// Rows of H that lean on each other, in every way that m rows can.
+fn row_faults(m: usize) -> Vec<Fault> {
+    let fault = |leaning: Leaning| {
+        let change = move |call: &mut Call| {
+            let Sample { n, h, .. } = &mut call.inputs.sample;
+            leaning.make(h, *n, &mut Generator::new(31));
+        };
+        Fault::new(15, format!("the rows lean: {leaning:?}"), change)
+    };
+    Leaning::of(m).map(fault).collect()
+}
+
 /// Positions, rows of H and targets that are no solution.
 fn top_faults() -> [Fault; 3] {
     [
@@ -250,7 +282,7 @@ fn top_faults() -> [Fault; 3] {
 
 /// Every fault of an entry for these sizes.
 fn faults(entry: &Entry, call: &Call) -> Vec<Fault> {
-    let Sample { n, d, .. } = call.inputs.sample;
+    let Sample { n, m, d, .. } = call.inputs.sample;
     let mut list = size_faults(n);
     for name in entry.slices() {
         let length = call.clone().lent(name).length();
@@ -258,6 +290,9 @@ fn faults(entry: &Entry, call: &Call) -> Vec<Fault> {
         if !entry.outputs.contains(&name) {
             list.extend(value_faults(name, length, d));
         }
+    }
+    if entry.order.contains(&15) {
+        list.extend(row_faults(m));
     }
     if entry.order.contains(&16) {
         list.extend(spare_faults(n, d));

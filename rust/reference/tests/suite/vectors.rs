@@ -4,9 +4,9 @@
 use crate::large;
 use reference::large_field::COORDINATES;
 use reference::package::{tag, words, CHECK_FILE_TAGS};
-use reference::samples::{honest_masks, honest_q, independent, Sample};
-use reference::vectors::{all, text_name, Cases, SIZES, TARGETS};
-use reference::{judge_check_file, perkcheck_line};
+use reference::samples::{honest_masks, honest_q, independent, joined_rows, solved, Sample};
+use reference::vectors::{all, rank, text_name, Cases, SIZES, TARGETS};
+use reference::{judge_check_file, perkcheck_line, Refusal, Refused};
 use std::collections::BTreeMap;
 use std::fs;
 use std::path::{Path, PathBuf};
@@ -74,12 +74,15 @@ fn parse(text: &str) -> BTreeMap<String, Vec<Vec<String>>> {
 
 struct Text(BTreeMap<String, Vec<Vec<String>>>);
 
+/// A stored text file.
+fn stored_text(name: &str) -> String {
+    fs::read_to_string(directory().join(name)).expect("the text file is there")
+}
+
 impl Text {
     /// The stored file of a size.
     fn of(n: usize, m: usize) -> Text {
-        let path = directory().join(text_name(n, m));
-        let text = fs::read_to_string(path).expect("the text file is there");
-        Text(parse(&text))
+        Text(parse(&stored_text(&text_name(n, m))))
     }
 
     fn lines(&self, name: &str) -> &[Vec<String>] {
@@ -150,6 +153,78 @@ impl Text {
     }
 }
 
+impl Text {
+    /// Compares rank and matrix with what the entry rank answers and writes.
+    fn compare_rank(&self, sample: &Sample, prefix: &str) {
+        let rank = self.number(&format!("{prefix}rank"));
+        let matrix = Text::words(&self.rows(&format!("{prefix}matrix")));
+        assert_eq!(joined_rows(&sample.h, sample.n), rank);
+        assert_eq!(sample.rank(), Ok((rank, matrix)));
+    }
+}
+
+/// The parts of the file `rank.txt`, each from a line with one of these names to
+/// the next one.
+fn parts_of_rank(heads: [&str; 2]) -> Vec<(String, Text)> {
+    let text = stored_text(rank::NAME);
+    let mut parts: Vec<String> = Vec::new();
+    for line in text.lines() {
+        if heads
+            .iter()
+            .any(|head| line.split(' ').next() == Some(head))
+        {
+            parts.push(String::new());
+        }
+        let part = parts.last_mut().expect("the file begins with a part");
+        *part += &format!("{line}\n");
+    }
+    let named = |part: String| {
+        let name = part.lines().next().expect("a line").to_string();
+        (name, Text(parse(&part)))
+    };
+    parts.into_iter().map(named).collect()
+}
+
+#[test]
+fn the_file_of_ranks_holds_the_answers() {
+    let (mut cases, mut short) = (0, 0);
+    let mut refused: BTreeMap<u32, usize> = BTreeMap::new();
+    let mut names = Vec::new();
+    for (name, text) in parts_of_rank(["case", "refused"]) {
+        let (n, m) = (text.number("n"), text.number("m"));
+        let before = |length: usize| vec![0xabcd; length];
+        if name.starts_with("case ") {
+            let h = Text::words(&text.rows("h"));
+            let matrix = Text::words(&text.rows("matrix"));
+            assert_eq!((h.len(), matrix.len()), (m * n, m * n), "{name}");
+            let mut written = before(m * n);
+            let rank = reference::rank(n, m, &h, &mut written);
+            assert_eq!(rank, Ok(text.number("rank")), "{name}");
+            assert_eq!(written, matrix, "{name}");
+            assert_eq!(rank, Ok(joined_rows(&h, n)), "{name}");
+            cases += 1;
+            short += usize::from(rank != Ok(m));
+        } else {
+            let h = Text::words(&text.lines("h_words").concat());
+            assert_eq!(h.len(), text.number("h_length"), "{name}");
+            let mut written = before(text.number("matrix_length"));
+            let answer = reference::rank(n, m, &h, &mut written).map_err(Refusal::number);
+            let number = text.number("answer") as u32;
+            assert_eq!(answer, Err(number), "{name}");
+            assert_eq!(written, before(written.len()), "{name}");
+            *refused.entry(number).or_default() += 1;
+        }
+        assert!(!names.contains(&name), "{name} is there twice");
+        names.push(name);
+    }
+    assert!(
+        cases >= 60 && short >= 30,
+        "{cases} cases, {short} of them short"
+    );
+    assert!(refused.keys().eq(&[1, 2, 3, 4]), "{refused:?}");
+    assert!(refused.values().all(|&count| count >= 4), "{refused:?}");
+}
+
 /// The file after a change: a place, the byte there and another one.
 fn changed(file: &[u8], change: &[String]) -> Vec<u8> {
     let mut bytes = file.to_vec();
@@ -216,6 +291,29 @@ fn the_text_files_hold_the_answers() {
         let has_spare_code = wrong.positions.iter().any(is_spare);
         assert_eq!(has_spare_code, SPARE_CODES.contains(&(n, m)));
         assert_eq!(number, if has_spare_code { 16 } else { 8 });
+
+        let key = text.sample();
+        text.compare_rank(&key, "");
+        assert_eq!(text.number("rank"), m);
+        let leaning = Sample {
+            h: Text::words(&text.rows("leaning_h")),
+            y: Text::words(&text.lines("leaning_y")[0]),
+            ..key
+        };
+        text.compare_rank(&leaning, "leaning_");
+        assert!(text.number("leaning_rank") < m);
+        assert!(solved(leaning.key(), &leaning.positions));
+        let (t, a) = leaning.unjudged_proof().expect("words up to 2047");
+        assert_eq!(t, Text::bytes(&text.rows("t")));
+        for (entry, answer) in [
+            ("constraints", leaning.constraints().map(|_| ())),
+            ("prove", leaning.proof().map(|_| ())),
+            ("values", leaning.values(&t).map(|_| ())),
+            ("verify", leaning.verdict(&t, &a).map(|_| ())),
+        ] {
+            assert_eq!(answer, Err(Refusal::DependentRows), "{entry}");
+            assert_eq!(text.number(&format!("leaning_{entry}")), 15);
+        }
     }
     assert_eq!(targets, 3);
 }
@@ -237,7 +335,10 @@ fn content(bytes: &[u8], tag: u8) -> Option<&[u8]> {
 /// refused before its key is read.
 fn independent_key(file: &[u8]) -> Option<bool> {
     let of_key = [tag::SIZES, tag::H, tag::X, tag::Y].map(Some);
-    if judge_check_file(file).is_err_and(|refused| of_key.contains(&refused.tag)) {
+    let before = |refused: Refused| {
+        of_key.contains(&refused.tag) && refused.refusal != Refusal::DependentRows
+    };
+    if judge_check_file(file).is_err_and(before) {
         return None;
     }
     let (sizes, h) = (content(file, tag::SIZES)?, content(file, tag::H)?);
@@ -245,15 +346,22 @@ fn independent_key(file: &[u8]) -> Option<bool> {
 }
 
 #[test]
-fn every_key_has_independent_rows() {
-    let mut keys = 0;
+fn every_key_has_independent_rows_but_where_it_is_meant() {
+    let (mut keys, mut leaning) = (0, 0);
     for case in Cases::all().list() {
-        if let Some(independent) = independent_key(&case.bytes) {
-            assert!(independent, "{}", case.name);
-            keys += 1;
-        }
+        let Some(independent) = independent_key(&case.bytes) else {
+            continue;
+        };
+        let meant = case.name.starts_with("leaning");
+        assert_eq!(independent, !meant, "{}", case.name);
+        assert_eq!(case.line == "refused 15\n", meant, "{}", case.name);
+        keys += usize::from(independent);
+        leaning += usize::from(meant);
     }
-    assert!(keys >= 300, "{keys} keys of cases");
+    assert!(
+        keys >= 300 && leaning >= 80,
+        "{keys} and {leaning} keys of cases"
+    );
     for (n, m) in SIZES {
         let text = Text::of(n, m);
         let file = text.file("file");

@@ -4,10 +4,10 @@ use native.Mathlib.Nat.{mul-zero, mul-add}
 use native.Mathlib.Omega.{arith}
 use lib.ListN.{length}
 use Rattle.field.specs.Packed.{Multiplies}
-use Rattle.field.specs.Word.{odd}
+use Rattle.field.specs.Word.{odd, Words}
 use Rattle.field.specs.Level.{levelAt, K}
 use Rattle.field.specs.declared.Level.{Level}
-use Rattle.row.specs.Elements.{el, Words}
+use Rattle.row.specs.Elements.{el}
 use Rattle.row.proofs.ElementLaws.{fits-le}
 use Rattle.row.proofs.NumberLaws.{row-le, row-next}
 use Rattle.folding.specs.Steps.{Joined, Halved}

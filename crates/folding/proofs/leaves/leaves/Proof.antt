@@ -7,7 +7,8 @@ use lib.ListN.{length}
 use Rattle.field.specs.Packed.{Multiplies}
 use Rattle.field.specs.Level.{levelAt, K}
 use Rattle.field.specs.declared.Level.{Level}
-use Rattle.row.specs.Elements.{el, Words, valueOf, Held}
+use Rattle.field.specs.Word.{Words}
+use Rattle.row.specs.Elements.{el, valueOf, Held}
 use Rattle.row.specs.Lent.{smallOf}
 use Rattle.row.specs.Step.{Put}
 use Rattle.row.proofs.ElementLaws.{fits-le, holds-value, holds-held}

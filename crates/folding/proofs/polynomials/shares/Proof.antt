@@ -6,7 +6,8 @@ use native.Mathlib.Omega.{arith}
 use lib.ListN.{length}
 use Rattle.field.specs.Level.{levelAt, K}
 use Rattle.field.specs.declared.Level.{Level}
-use Rattle.row.specs.Elements.{el, Words}
+use Rattle.field.specs.Word.{Words}
+use Rattle.row.specs.Elements.{el}
 use Rattle.row.specs.Lent.{smallOf, digitOf, elementOf}
 use Rattle.row.specs.Polynomial.{sum, z}
 use Rattle.row.specs.Step.{Added}

@@ -5,10 +5,10 @@ use native.Mathlib.Omega.{arith}
 use borrow.Author.Needs.{needs}
 use lib.ListN.{length, getD}
 use Rattle.field.specs.Packed.{Holds, Multiplies}
-use Rattle.field.specs.Word.{odd}
+use Rattle.field.specs.Word.{odd, Words}
 use Rattle.field.specs.Level.{levelAt, K}
 use Rattle.field.specs.declared.Level.{Level}
-use Rattle.row.specs.Elements.{el, Words}
+use Rattle.row.specs.Elements.{el}
 use Rattle.row.specs.Step.{Step}
 use Rattle.row.proofs.ElementLaws.{fits-le}
 use Rattle.row.proofs.NumberLaws.{pos, pow-double, pow-room}

@@ -4,11 +4,11 @@ use native.Mathlib.Nat.{mul-zero, mul-add}
 use native.Mathlib.Omega.{arith}
 use lib.ListN.{length}
 use Rattle.field.specs.Packed.{Multiplies}
-use Rattle.field.specs.Word.{odd}
+use Rattle.field.specs.Word.{odd, Words}
 use Rattle.field.specs.Level.{levelAt, K}
 use Rattle.field.specs.declared.Level.{Level}
 use Rattle.row.specs.Step.{Factored, Doubled}
-use Rattle.row.specs.Elements.{el, Words}
+use Rattle.row.specs.Elements.{el}
 use Rattle.row.proofs.ProductLaws.{doubled-none, doubled-more}
 use Rattle.row.proofs.ElementLaws.{fits-le}
 use Rattle.row.proofs.NumberLaws.{row-le, row-next}

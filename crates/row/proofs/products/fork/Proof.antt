@@ -5,11 +5,11 @@ use native.Mathlib.Omega.{arith}
 use lib.ListN.{length}
 use Rattle.field.specs.Binary.{bit}
 use Rattle.field.specs.Packed.{Holds}
-use Rattle.field.specs.Word.{odd}
+use Rattle.field.specs.Word.{odd, Words}
 use Rattle.field.specs.Level.{levelAt, K}
 use Rattle.field.specs.declared.Level.{Level}
 use Rattle.row.specs.Step.{Twofold}
-use Rattle.row.specs.Elements.{el, Words, Fits}
+use Rattle.row.specs.Elements.{el, Fits}
 use Rattle.row.proofs.ValueLaws.{twofold-none, twofold-more}
 use Rattle.row.proofs.ElementLaws.{holds-held, fits-le}
 use Rattle.row.proofs.NumberLaws.{odd-not}

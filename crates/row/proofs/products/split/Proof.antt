@@ -1,5 +1,4 @@
 use mathlib.Core.Bool.{Bool, not}
-use mathlib.Core.List.{List}
 use mathlib.Core.Path.{subst, _≡_, refl, sym, _∙_}
 use Prim.Native.Nat.{ℕ, _+_, _-_, _≤_, _<_}
 use native.Mathlib.Nat.{le-refl}
@@ -8,13 +7,13 @@ use borrow.Author.Needs.{needs}
 use lib.ListN.{length}
 use Rattle.field.specs.Binary.{bit}
 use Rattle.field.specs.Packed.{Holds, Multiplies}
-use Rattle.field.specs.Word.{odd}
+use Rattle.field.specs.Word.{odd, Words}
 use Rattle.field.specs.Level.{levelAt, K}
 use Rattle.field.specs.declared.Level.{Level}
 use Rattle.field.specs.declared.Multiples.{Multiples}
 use Rattle.row.specs.Step.{Step, PutTwo, Factored}
 use Rattle.row.specs.Polynomial.{up}
-use Rattle.row.specs.Elements.{el, Words, Fits}
+use Rattle.row.specs.Elements.{el, Fits}
 use Rattle.row.proofs.ProductLaws.{up-zero, up-suc, times-low, times-top, factored-none, factored-ahead, factored-more}
 use Rattle.row.proofs.ElementLaws.{holds-held, fits-le}
 use Rattle.row.proofs.products.split.Statement.{statement}

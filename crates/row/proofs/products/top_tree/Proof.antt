@@ -9,7 +9,8 @@ use Rattle.field.specs.Level.{levelAt, K}
 use Rattle.field.specs.declared.Level.{Level}
 use Rattle.row.specs.Step.{Step, Put, Twofold}
 use Rattle.row.specs.Polynomial.{digit, z}
-use Rattle.row.specs.Elements.{el, Words}
+use Rattle.field.specs.Word.{Words}
+use Rattle.row.specs.Elements.{el}
 use Rattle.row.proofs.ValueLaws.{Ends, ends-none, tops-more, top-end}
 use Rattle.row.proofs.ElementLaws.{fits-le}
 use Rattle.row.proofs.NumberLaws.{pos, pow-double, pow-room, digit-place}

@@ -9,7 +9,8 @@ use Rattle.field.specs.Level.{levelAt, K}
 use Rattle.field.specs.declared.Level.{Level}
 use Rattle.row.specs.Step.{Step, Put, Doubled}
 use Rattle.row.specs.Polynomial.{digit, z}
-use Rattle.row.specs.Elements.{el, Words}
+use Rattle.field.specs.Word.{Words}
+use Rattle.row.specs.Elements.{el}
 use Rattle.row.proofs.ProductLaws.{Products, products-none, products-more}
 use Rattle.row.proofs.ElementLaws.{fits-le}
 use Rattle.row.proofs.NumberLaws.{many, pow-double, pow-room, room, room-one, digit-place}

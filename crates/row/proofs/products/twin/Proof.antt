@@ -7,7 +7,8 @@ use Rattle.field.specs.Packed.{Holds, Multiplies}
 use Rattle.field.specs.Level.{levelAt, K}
 use Rattle.field.specs.declared.Level.{Level}
 use Rattle.row.specs.Step.{Step, PutTwo, Twofold}
-use Rattle.row.specs.Elements.{el, Words, Fits, valueOf}
+use Rattle.field.specs.Word.{Words}
+use Rattle.row.specs.Elements.{el, Fits, valueOf}
 use Rattle.row.proofs.ValueLaws.{twofold-none, twofold-more}
 use Rattle.row.proofs.ElementLaws.{holds-held, fits-le}
 use Rattle.row.proofs.products.twin.Statement.{statement}

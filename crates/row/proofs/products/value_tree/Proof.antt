@@ -6,12 +6,12 @@ use borrow.Author.Needs.{needs}
 use lib.ListN.{length, getD}
 use Rattle.field.specs.Binary.{bit}
 use Rattle.field.specs.Packed.{Holds}
-use Rattle.field.specs.Word.{odd}
+use Rattle.field.specs.Word.{odd, Words}
 use Rattle.field.specs.Level.{levelAt, K}
 use Rattle.field.specs.declared.Level.{Level}
 use Rattle.row.specs.Step.{Step, Put, Twofold}
 use Rattle.row.specs.Polynomial.{value}
-use Rattle.row.specs.Elements.{el, Words, valueOf}
+use Rattle.row.specs.Elements.{el, valueOf}
 use Rattle.row.proofs.ValueLaws.{Ends, ends-none, ends-more}
 use Rattle.row.proofs.ElementLaws.{fits-le, holds-value, holds-held}
 use Rattle.row.proofs.NumberLaws.{pos, pow-double, pow-room, odd-not}

@@ -5,7 +5,8 @@ use lib.ListN.{length}
 use Rattle.field.specs.Level.{levelAt, K}
 use Rattle.field.specs.declared.Level.{Level}
 use Rattle.row.specs.Step.{Added}
-use Rattle.row.specs.Elements.{el, Words}
+use Rattle.field.specs.Word.{Words}
+use Rattle.row.specs.Elements.{el}
 use Rattle.row.proofs.SumLaws.{added-none, added-more}
 use Rattle.row.proofs.ElementLaws.{fits-le}
 use Rattle.row.proofs.sums.add.Statement.{statement}

@@ -9,7 +9,8 @@ use Rattle.field.specs.declared.Level.{Level}
 use Rattle.row.specs.Lent.{smallOf, entryOf}
 use Rattle.row.specs.Polynomial.{sum}
 use Rattle.row.specs.Step.{AddedDown}
-use Rattle.row.specs.Elements.{el, Words}
+use Rattle.field.specs.Word.{Words}
+use Rattle.row.specs.Elements.{el}
 use Rattle.row.proofs.SumLaws.{mixed, Checked, checked-none, checked-more, checked-all}
 use Rattle.row.proofs.ElementLaws.{fits-le, holds-value, holds-held}
 use Rattle.row.proofs.sums.share.Statement.{statement}

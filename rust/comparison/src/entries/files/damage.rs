@@ -1,25 +1,27 @@
 //! Damage of files without a known answer, and changes that no refusal applies
 //! to.
 
-use super::faults::{any_of, following, other_length, other_tag, spoil_values};
+use super::faults::{any_of, following, other_length, other_tag, spoil_value};
 use super::fields::{
-    any_serial, any_target, dependent_rows, elements, holds, serial_field, set_target, set_word,
-    starts, value_refusals, zero_target, Holds,
+    any_serial, any_target, dependent_rows, elements, holds, lean, serial_field, set_target,
+    set_word, starts, value_refusals, zero_target, Holds,
 };
 use super::Reader;
 use reference::package::{join, tag, WrittenField, SERIAL_LENGTHS};
 use reference::samples::Generator;
 use reference::small_field::F;
+use reference::Refusal;
 
 /// Changes of whole fields.
-const FIELD_CHANGES: usize = 12;
+const FIELD_CHANGES: usize = 13;
 
 /// Changes whole fields.
 fn change_fields(fields: &mut Vec<WrittenField>, generator: &mut Generator) {
     let index = generator.below(fields.len());
     let other = generator.below(fields.len());
     let field = &mut fields[index];
-    let spoilable = !field.content.is_empty() && !value_refusals(field.tag).is_empty();
+    let refusals = value_refusals(field.tag);
+    let spoilable = !field.content.is_empty() && !refusals.is_empty();
     match generator.below(FIELD_CHANGES) {
         0 => fields.swap(index, other),
         1 => fields.insert(other, fields[index].clone()),
@@ -27,11 +29,15 @@ fn change_fields(fields: &mut Vec<WrittenField>, generator: &mut Generator) {
         3 => field.length = field.length.wrapping_add(1),
         4 => field.length = field.length.wrapping_sub(1),
         5 => field.tag = other_tag(field.tag, generator),
-        6 if spoilable => drop(spoil_values(field, generator)),
+        6 if spoilable => match any_of(refusals, generator) {
+            Refusal::DependentRows => drop(lean(fields, generator)),
+            refusal => spoil_value(field, refusal, generator),
+        },
         7 => field.length = other_length(field, generator),
         8 => field.length = any_of(&SERIAL_LENGTHS, generator) as u16,
         9 => field.tag = any_of(&[tag::Y, tag::SERIAL], generator),
         10 => put_target(fields, generator),
+        11 => drop(lean(fields, generator)),
         _ => harmless(fields, index, generator),
     }
 }

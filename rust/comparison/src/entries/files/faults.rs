@@ -1,12 +1,12 @@
 //! Faults of one field, at one place, whose answers are known.
 
 use super::fields::{
-    self, elements, holds, may_come_next, may_have_length, serial_in_four, set_word, starts,
+    self, elements, holds, lean, may_come_next, may_have_length, serial_in_four, set_word, starts,
     value_refusals, Holds, HEAD,
 };
 use super::Reader;
 use crate::entries::DONE;
-use reference::package::{join, stated_of, WrittenField, CHECK_FILE_TAGS};
+use reference::package::{index_of, join, stated_of, tag, WrittenField, CHECK_FILE_TAGS};
 use reference::samples::Generator;
 use reference::small_field::F;
 use reference::{Place, Refusal};
@@ -80,14 +80,18 @@ pub fn word_above(generator: &mut Generator) -> u16 {
     }
 }
 
-/// A file under change: its fields, the bytes that follow them, and where the
-/// bytes are cut.
+/// A file under change: its fields, the bytes that follow them, where the bytes
+/// are cut, and whether the rows of H lean on each other.
 #[derive(Clone)]
 pub struct Draft {
     /// The fields.
     pub fields: Vec<WrittenField>,
     following: Vec<u8>,
     cut: Option<(usize, usize)>,
+    /// Whether rows that lean were put into H.
+    leans: bool,
+    /// The index of x.
+    x: usize,
 }
 
 impl Draft {
@@ -97,6 +101,8 @@ impl Draft {
             fields: R::FILE.part(fields).to_vec(),
             following: Vec::new(),
             cut: None,
+            leans: false,
+            x: index_of(fields, tag::X),
         }
     }
 
@@ -113,6 +119,36 @@ impl Draft {
     /// Cuts in a field, or before, when a cut is there already.
     pub fn cut(&mut self, index: usize, more: usize) {
         self.cut = Some(self.cut.map_or((index, more), |cut| cut.min((index, more))));
+    }
+
+    /// The index of the field with which 15 is decided, after its values: that of
+    /// x, or that of y where the byte after x is its tag.
+    fn judges_rows(&self) -> usize {
+        let x = self.x;
+        let after_x = starts(&self.fields)[x] + HEAD + self.fields[x].content.len();
+        x + usize::from(self.bytes().get(after_x) == Some(&tag::Y))
+    }
+
+    /// Faults of the values of a field that has content and such refusals: one of
+    /// them, and about every other time each that is decided later, those first,
+    /// so that none takes the first away. The first. 15 is one of them where it is
+    /// decided with this field.
+    fn spoil_values(&mut self, index: usize, generator: &mut Generator) -> Refusal {
+        let refusals = value_refusals(self.fields[index].tag).to_vec();
+        let of_rows = refusals.contains(&Refusal::DependentRows) && self.judges_rows() == index;
+        let possible = |&refusal: &Refusal| refusal != Refusal::DependentRows || of_rows;
+        let refusals: Vec<Refusal> = refusals.into_iter().filter(possible).collect();
+        let first = generator.below(refusals.len());
+        for place in (first..refusals.len()).rev() {
+            if place > first && generator.below(2) == 0 {
+                continue;
+            }
+            match refusals[place] {
+                Refusal::DependentRows => self.leans |= lean(&mut self.fields, generator),
+                refusal => spoil_value(&mut self.fields[index], refusal, generator),
+            }
+        }
+        refusals[first]
     }
 
     /// Puts a fault at this spot, and gives its refusal.
@@ -138,7 +174,7 @@ impl Draft {
                 let more = any_of(&[0, len - 1, generator.below(len)], generator);
                 self.cut(index, HEAD + more);
             }
-            Place::Values => return spoil_values(&mut self.fields[index], generator),
+            Place::Values => return self.spoil_values(index, generator),
             Place::End => self.following = following(generator),
         }
         *refusal_of(place)
@@ -193,25 +229,8 @@ pub fn following(generator: &mut Generator) -> Vec<u8> {
     }
 }
 
-/// Faults of the values of a field that has content and such refusals: one of
-/// them, and about every other time each that is decided later, those first, so
-/// that none takes the first away. The first.
-pub fn spoil_values(field: &mut WrittenField, generator: &mut Generator) -> Refusal {
-    let refusals = value_refusals(field.tag);
-    let (first, later) = refusals[generator.below(refusals.len())..]
-        .split_first()
-        .expect("a refusal at the place of values");
-    for refusal in later.iter().rev() {
-        if generator.below(2) == 0 {
-            spoil_value(field, *refusal, generator);
-        }
-    }
-    spoil_value(field, *first, generator);
-    *first
-}
-
-/// Puts a value into a field, to which this refusal applies.
-fn spoil_value(field: &mut WrittenField, refusal: Refusal, generator: &mut Generator) {
+/// Puts a value into a field, to which this refusal of a field alone applies.
+pub fn spoil_value(field: &mut WrittenField, refusal: Refusal, generator: &mut Generator) {
     match refusal {
         Refusal::SizeN => {
             field.content[0] = any_of(&[0, 1, 65, 66, 127, 128, 130, 192, 255], generator);
@@ -245,7 +264,8 @@ fn any_place(len: usize, generator: &mut Generator) -> usize {
 }
 
 /// The bytes with faults at these spots, and the number of the first: places
-/// are tried field after field, and in their order.
+/// are tried field after field, and in their order. Where the rows of H lean, 15
+/// comes with the last field of the key, which another fault can change.
 pub fn faulty<R: Reader>(
     fields: &[WrittenField],
     spots: &[Spot],
@@ -257,8 +277,13 @@ pub fn faulty<R: Reader>(
     spots.sort_unstable();
     spots.dedup();
     let mut number = DONE;
-    for spot in spots.into_iter().rev() {
+    for &spot in spots.iter().rev() {
         number = draft.spoil(spot, generator).number();
+    }
+    // The values of x are judged before H, and those of y too.
+    let after = |&first: &Spot| first > (draft.judges_rows(), Place::Values);
+    if draft.leans && spots.first().is_some_and(after) {
+        number = Refusal::DependentRows.number();
     }
     (draft.bytes(), number)
 }

@@ -7,7 +7,7 @@ use reference::package::{
     check_fields, field_of, index_of, package_fields, serial_bytes, stated_of, tag, words, y_field,
     WrittenField, SERIAL_LENGTHS,
 };
-use reference::samples::{independent, Generator};
+use reference::samples::{independent, Generator, Leaning};
 use reference::small_field::F;
 use reference::{Key, Refusal};
 
@@ -34,7 +34,8 @@ pub struct Field {
     /// What its content is.
     pub holds: Holds,
     /// The refusals at the place of values, in the order in which they are
-    /// decided.
+    /// decided. 15, that of H, comes with the last field of the key: y, or x where
+    /// the tag of y does not follow it.
     pub refusals: &'static [Refusal],
 }
 
@@ -51,11 +52,19 @@ const fn field(tag: u8, holds: Holds, refusals: &'static [Refusal]) -> Field {
 const FIELDS: &[Field] = &[
     field(tag::SIZES, Holds::Sizes, &[Refusal::SizeN, Refusal::SizeM]),
     field(tag::H, Holds::Words, &[Refusal::KeyElement]),
-    field(tag::X, Holds::Words, &[Refusal::KeyElement]),
+    field(
+        tag::X,
+        Holds::Words,
+        &[Refusal::KeyElement, Refusal::DependentRows],
+    ),
     field(
         tag::Y,
         Holds::Words,
-        &[Refusal::KeyElement, Refusal::ZeroTarget],
+        &[
+            Refusal::KeyElement,
+            Refusal::ZeroTarget,
+            Refusal::DependentRows,
+        ],
     ),
     field(tag::SERIAL, Holds::Serial, &[Refusal::LongSerial]),
     field(tag::T, Holds::Bits, &[Refusal::Bit]),
@@ -279,6 +288,43 @@ pub fn rows_of_key(fields: &[WrittenField]) -> Option<(usize, Vec<u16>)> {
         }
     }
     Some((sizes.n, h))
+}
+
+/// n and the words of H of a file; none where the sizes or the field of H aren't
+/// right. The other fields may be any.
+fn sized_rows(fields: &[WrittenField]) -> Option<(Sizes, Vec<u16>)> {
+    let content = |tag| {
+        let field = fields.iter().find(|field| field.tag == tag)?;
+        Some(&field.content[..])
+    };
+    let &[n, m] = content(tag::SIZES)? else {
+        return None;
+    };
+    let sizes = Sizes::judged(n.into(), m.into()).ok()?;
+    let h = words(content(tag::H)?);
+    let right = h.len() == sizes.h_words() && h.iter().all(|&word| word <= F::LARGEST);
+    right.then_some((sizes, h))
+}
+
+/// Puts rows that lean in this way into the field of H; whether the sizes and H
+/// are right, so that they can.
+pub fn lean_as(fields: &mut [WrittenField], leaning: Leaning, generator: &mut Generator) -> bool {
+    let Some((sizes, mut h)) = sized_rows(fields) else {
+        return false;
+    };
+    leaning.make(&mut h, sizes.n, generator);
+    let bytes = h.into_iter().flat_map(u16::to_be_bytes);
+    *content_mut(fields, tag::H) = bytes.collect();
+    true
+}
+
+/// The same, in any way that m rows can lean.
+pub fn lean(fields: &mut [WrittenField], generator: &mut Generator) -> bool {
+    let Some((sizes, _)) = sized_rows(fields) else {
+        return false;
+    };
+    let ways: Vec<Leaning> = Leaning::of(sizes.m).collect();
+    lean_as(fields, ways[generator.below(ways.len())], generator)
 }
 
 /// Whether rows of H depend on each other, in a file whose key has no other

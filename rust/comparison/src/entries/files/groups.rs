@@ -7,6 +7,7 @@ use super::fields::{
     serial_field, serial_in_four, serials_about_powers, set_serial, set_target, value_refusals,
     Holds, HEAD,
 };
+use super::leaning;
 use super::{case, File, Reader};
 use crate::case::{decided, Case, Group};
 use crate::entries::{keyed, DONE};
@@ -19,17 +20,17 @@ use reference::small_field::F;
 use reference::Refusal;
 
 /// 4: an element of the key is above 2047.
-const KEY_ELEMENT: u32 = 4;
+pub const KEY_ELEMENT: u32 = 4;
 /// 9: bytes are missing.
-const MISSING: u32 = 9;
+pub const MISSING: u32 = 9;
 /// 10: "not the tag that comes next".
 const TAG: u32 = 10;
 /// 11: "not the length stated above".
-const LENGTH: u32 = 11;
+pub const LENGTH: u32 = 11;
 /// 12: "bytes follow the last field".
 const FOLLOW: u32 = 12;
 /// 14: "field 04 is present and all its elements are zero".
-const ZERO_TARGET: u32 = 14;
+pub const ZERO_TARGET: u32 = 14;
 /// 19: "a four-byte serial is below 65,536".
 const LONG_SERIAL: u32 = 19;
 
@@ -43,6 +44,10 @@ pub fn fault_groups<R: Reader>() -> Vec<Group> {
         each_value::<R>(),
         serials::<R>(),
         targets::<R>(),
+        leaning::whole_files::<R>(),
+        leaning::beside_other_faults::<R>(),
+        leaning::after_x::<R>(),
+        leaning::prefixes::<R>(),
         two_faults::<R>(),
         order::<R>(),
         short::<R>(),
@@ -145,6 +150,7 @@ pub const fn one_fault<R: Reader>() -> Group {
             }
         },
     )
+    .with_any_rows()
 }
 
 /// Every other tag and many other lengths of each field.
@@ -424,6 +430,7 @@ pub const fn two_faults<R: Reader>() -> Group {
             }
         }
     })
+    .with_any_rows()
 }
 
 /// The file with this field left out, put before each other, and exchanged with

@@ -3,20 +3,22 @@
 //! - [`fields`]: the fields of packages and check files, by their tags;
 //! - [`faults`]: faults at the places of fields, whose answers are known;
 //! - [`damage`]: other changes of files;
-//! - [`groups`]: the groups of cases;
+//! - [`groups`] and [`leaning`]: the groups of cases, the latter with rows of H
+//!   that lean on each other;
 //! - [`table`]: the table of a reader.
 
 pub mod damage;
 pub mod faults;
 pub mod fields;
 pub mod groups;
+pub mod leaning;
 pub mod table;
 
 use crate::case::{Case, Taken};
 use crate::lent::Lent;
 use crate::named::Named;
 use fields::{any_fields, rows_of_key, walked, KEY_TAGS};
-use reference::package::{package_part, WrittenField, CHECK_FILE_TAGS, PACKAGE_TAGS};
+use reference::package::{join, package_part, tag, WrittenField, CHECK_FILE_TAGS, PACKAGE_TAGS};
 use reference::samples::Generator;
 use reference::Refusal;
 
@@ -32,6 +34,7 @@ pub const REFUSALS: &[Refusal] = &[
     Refusal::SizeM,
     Refusal::KeyElement,
     Refusal::ZeroTarget,
+    Refusal::DependentRows,
     Refusal::LongSerial,
     Refusal::Bit,
     Refusal::Coordinate,
@@ -109,10 +112,13 @@ pub fn case<R: Reader>(bytes: &[u8], answer: Option<u32>, generator: &mut Genera
 }
 
 /// n and H of the bytes of a file; none where the fields of the key aren't
-/// right.
+/// right. The tag of y after x is that of a field of the key, though it be cut.
 pub fn rows_of_bytes(bytes: &[u8]) -> Option<(usize, Vec<u16>)> {
     let fields: Vec<WrittenField> = walked(bytes).take(KEY_TAGS.len()).collect();
-    rows_of_key(&fields)
+    let rows = rows_of_key(&fields)?;
+    let after_x = join(&fields[..KEY_TAGS.len() - 1]).len();
+    let cut = fields.len() < KEY_TAGS.len() && bytes.get(after_x) == Some(&tag::Y);
+    (!cut).then_some(rows)
 }
 
 /// n and H of what an entry that reads a file takes.

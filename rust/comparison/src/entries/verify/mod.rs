@@ -6,6 +6,7 @@ mod changes;
 
 use super::faults::fault_groups;
 use super::keyed::{self, after_key, fill, of_kinds, of_sample, of_sizes, sizes_of, Keyed};
+use super::leaning;
 use super::rounds::{self, InRounds, Round};
 use super::witnesses;
 use super::{DONE, REJECTED};
@@ -17,7 +18,7 @@ use crate::slices::{A, ALPHA, DELTA, H, MASKS, Q, T, X, Y};
 use changes::{with_any_change, with_bit_changed};
 use reference::key::{elements_of_k, Sizes};
 use reference::large_field::{COORDINATES, K};
-use reference::samples::{self, Generator, Sample};
+use reference::samples::{self, Generator, Leaning, Sample};
 use reference::{Key, Refusal, Verdict};
 
 /// The slices and the refusals of verify.
@@ -37,6 +38,22 @@ impl Keyed for Verify {
         }
         let index = generator.below(COORDINATES);
         with_bit_changed(&case, A, index, generator).answering(Some(REJECTED))
+    }
+
+    /// A proof that would be accepted; from some n on, where the reference takes
+    /// long to make one, any numbers.
+    fn leaning(sizes: Sizes, leaning: Leaning, generator: &mut Generator) -> Case {
+        if sizes.n > keyed::ALL_VARIANTS {
+            return leaning::of_right::<Verify>(sizes, leaning, generator);
+        }
+        let mut sample = Sample::solving(sizes.n, sizes.m, generator);
+        sample = sample.leaning(leaning, generator);
+        sample.make_honest();
+        let (t, a) = sample.unjudged_proof().expect("material within its limits");
+        let mut case = of_sample::<Verify>(&sample, generator);
+        case.set_bytes(T, &t);
+        case.set_words(A, &a);
+        case
     }
 }
 
@@ -82,10 +99,11 @@ pub const VERIFY: Entry = Entry {
             changes::ALL_T,
         ];
         let rounds = rounds::groups::<Verify>();
-        [own, rounds, fault_groups::<Verify>()].concat()
+        let leaning = leaning::groups::<Verify>();
+        [own, rounds, leaning, fault_groups::<Verify>()].concat()
     },
     table: Some(keyed::table::<Verify>()),
-    least: rounds::least,
+    least: || [rounds::least(), leaning::least()].concat(),
     ..keyed::ENTRY
 };
 

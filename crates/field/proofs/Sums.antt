@@ -2,10 +2,10 @@
 use mathlib.Core.Path.{_≡_, refl, sym, _∙_, ap, ap₂}
 use Prim.Native.Nat.{ℕ, zero, suc, _<_}
 use native.Mathlib.Omega.{arith}
 use Rattle.field.specs.Ring.{Ring}
 use Rattle.field.specs.RingLaws.{ring, mul-zero}
-use Rattle.constraints.specs.Graded.{summed, sigma}
-use Rattle.constraints.specs.GradedLaws.{map-summed}
+use Rattle.field.specs.Sums.{summed, sigma}
+use Rattle.field.specs.SumLaws.{map-summed}
 
 module _ (R : Ring) where
   open Ring R using (Carrier, zero as 𝟘, one as 𝟙, add as _⊕_, mul as _⊗_)

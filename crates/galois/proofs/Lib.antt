@@ -1,0 +1,14 @@
+pub mod FieldLaws
+pub mod Evaluation
+pub mod Extensions
+pub mod Division
+pub mod Roots
+pub mod Frobenius
+pub mod Certificate
+pub mod Computed
+pub mod Irreducible
+pub mod Fields
+pub mod Permuted
+pub mod Fermat
+pub mod Inverse
+pub mod Examples

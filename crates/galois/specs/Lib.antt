@@ -1,0 +1,4 @@
+pub mod Field
+pub mod Polynomial
+pub mod Rules
+pub mod Inverse

@@ -1,0 +1,1 @@
+// Definitions and laws of fields, irreducible polynomials and inverses; no code.

@@ -1,0 +1,30 @@
+-- Laws of the number of indices that pass a test.
+use mathlib.Core.Path.{_≡_, refl, _∙_, ap}
+use mathlib.Core.Bool.{Bool, true, false, cond}
+use Prim.Native.Nat.{ℕ, zero, suc, _≤_, _<_}
+use native.Mathlib.Omega.{arith}
+use lib.Dec.{eqb}
+use borrow.Author.Tests.{eqb-true, eqb-false}
+use Rattle.lists.specs.Count.{count}
+
+one-le : (c : Bool) → cond c 1 0 ≤ 1
+one-le false = omega arith
+one-le true = omega arith
+
+one-true : (c : Bool) → 1 ≤ cond c 1 0 → c ≡ true
+one-true false h = absurd (omega arith)
+one-true true h = refl
+
+pub count-le : (n : ℕ) (test : ℕ → Bool) → count n test ≤ n
+unfolding count
+count-le zero test = omega arith
+count-le (suc n) test = omega (arith, count-le n test, one-le (test n))
+
+pub count-all : (n : ℕ) (test : ℕ → Bool) → n ≤ count n test → (i : ℕ) → i < n → test i ≡ true
+unfolding count
+count-all zero test h i l = absurd (omega arith)
+count-all (suc n) test h i l = last (eqb i n) refl (count-all n test (omega (arith, one-le (test n))) i)
+  where
+    last : (c : Bool) → eqb i n ≡ c → (i < n → test i ≡ true) → test i ≡ true
+    last false e below = below (omega (arith, eqb-false i n e))
+    last true e below = ap test (eqb-true i n e) ∙ one-true (test n) (omega (arith, count-le n test))

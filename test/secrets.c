@@ -9,7 +9,7 @@
  *   SLICE  positions, u, v, r or s: the one that is marked; or all
  *   CASE   plain; fault: the last element of the slice is too large; order: one position is there twice, so that the positions do not
  *          solve the key; spare: one position is n, below 2^d; bit: the last byte of u is 2, and the first position n or, where no
- *          code is spare, 255;
+ *          code is spare, 255; leaning: the last row of H is zero, and a bit, an offset and a position are too large;
  *          jump or index: before the call, a jump or an address that depends on the first byte of the slice
  */
 #include <stdint.h>
@@ -96,6 +96,12 @@ int main(int argc, char **argv) {
     if (strcmp(kind, "bit") == 0) {
         u[bits - 1] = 2;
         positions[0] = (uint8_t)(n >> d == 0 ? n : 255);
+    }
+    if (strcmp(kind, "leaning") == 0) {
+        memset(h + (m - 1) * n, 0, n * sizeof *h);
+        u[bits - 1] = 2;
+        v[W * bits - 1] = 2048;
+        positions[0] = 255;
     }
     struct { const char *name; uint8_t *start; size_t size; } secrets[] = {{"positions", positions, n},
                                                                            {"u", u, bits},

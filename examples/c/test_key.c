@@ -44,7 +44,7 @@ int main(int argc, char **argv) {
     }
     for (int e = 0; e < M; e++) print_row(e, matrix + e * N);
     printf("rank %lu of %d: %s\n", (unsigned long)rank, M,
-           rank < M ? "more orders solve this key than should" : "no row leans on the others");
+           rank < M ? "this key asks less of an order than it seems to" : "no row leans on the others");
 
     /* every function that takes a key makes the same test by itself; here x and y are zero, as are the mask bits and the offsets */
     static const uint16_t x[PERK_X_WORDS(N)], y[PERK_Y_WORDS(M)], v[PERK_V_WORDS(N)];

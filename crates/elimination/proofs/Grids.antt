@@ -88,6 +88,10 @@ module _ (b r : ℕ) (h ys : List ℕ) (room : b + r ≤ length h) (same : lengt
 pub row-past : (n i k : ℕ) → k < i → k * n + n ≤ i * n
 row-past n i k h = omega (arith, suc-mul k n, mul-le-mul-right {m = suc k} {n = i} n h)
 
+-- where row k of at most 128 rows ends
+pub row-end : (n k rows : ℕ) → k < rows → rows ≤ 128 → (k * n + n ≤ 128 * n) × (k * n + n ≤ rows * n)
+row-end n k rows q r = (row-past n 128 k (omega arith), row-past n rows k q)
+
 -- the rows after row p
 module _ (m n p : ℕ) (h : List ℕ) (size : length h ≡ m * n) (l : p < m) where
   abbrev end : ℕ

@@ -5,3 +5,4 @@ pub mod Grids
 pub mod Clearing
 pub mod Simulation
 pub mod Leaning
+pub mod Examples

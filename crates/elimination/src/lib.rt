@@ -17,8 +17,8 @@ use field::small;
 // The largest n of any level: the words of a row that is held apart, and a mark for each row.
 const MOST: usize = 128;
 
-// The largest m n of the first level.
-const MATRIX: usize = 4032;
+// The largest m n of the first level: the room in which the rows of a key are tested.
+pub const MATRIX: usize = 4032;
 
 // The inverse of an element of F that is not zero: its power 2^width - 2, the square of its power 2^(width - 1) - 1.
 pub fn inverse(a: u16, level: usize) -> u16

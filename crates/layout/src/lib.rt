@@ -16,6 +16,7 @@ ghost use Rattle.layout.specs.declared.Kind.the-variants.{Target};
 ghost use Rattle.layout.specs.Layout.{serialLength, optional, keySegment, groupRows, checkRows, leans, keyTests, keyEnd};
 ghost use Rattle.layout.specs.Tests.{keyAt, zeros, longSerial, valueTests, rowTests, tests, endTests, partOf};
 ghost use Rattle.layout.specs.Steps.{Whole, stepped, outcome, further};
+use elimination::MATRIX;
 use field::FIRST;
 use field::Level;
 use key::Key;
@@ -74,10 +75,6 @@ pub const HEAD: usize = 3;
 
 // Where the content of field 02 stands in a file: after field 01 and the head.
 const H_START: usize = 8;
-
-// The largest m n.
-const MATRIX: usize = 4032;
-
 // Where a content stands in the bytes lent.
 pub struct Part {
     pub start: usize,

@@ -10,15 +10,11 @@ use Rattle.field.specs.Word.{small, word, Words}
 use Rattle.field.proofs.Fields.{bounded}
 use Rattle.elimination.specs.Steps.{Grid, entryAt, timesWord}
 use Rattle.elimination.proofs.Words.{times-is, times-lt}
-use Rattle.elimination.proofs.Grids.{row-past, words-part}
+use Rattle.elimination.proofs.Grids.{row-end, words-part}
 use Rattle.elimination.proofs.Clearing.{cleared, cleared-below, cleared-from, skipped, added, added-words}
 use borrow.Author.Needs.{needs}
 use Rattle.elimination.proofs.clear.Statement.{statement}
 use Rattle.elimination.proofs.clear.Tie as tie
-
--- where row k ends
-bound : (n k rows : ℕ) → k < rows → rows ≤ 128 → (k * n + n ≤ 128 * n) × (k * n + n ≤ rows * n)
-bound n k rows q r = (row-past n 128 k (omega arith), row-past n rows k q)
 
 abbrev Inv-loop : tie.InvT-loop
 Inv-loop rest₀ used row from rows n c v level k₀ rest k = (k ≤ rows) × Grid rows n rest (cleared (levelAt level) n c v from used row rest₀ k) × Words (levelAt level) rest
@@ -39,28 +35,28 @@ shared-slice-read-if1 : tie.Need-shared-slice-read-if1 Inv-loop μ-loop
 shared-slice-read-if1 c = search needs
 
 mul-start : tie.Need-mul-start Inv-loop μ-loop
-mul-start c = omega (arith, bound (c .before .before .before .before .before .before .before .args .n) (c .before .before .before .loop .k) (c .before .before .before .before .before .before .before .args .rows) (omega arith) (omega arith), c .before .before .before .loop .inv .1 .size)
+mul-start c = omega (arith, row-end (c .before .before .before .before .before .before .before .args .n) (c .before .before .before .loop .k) (c .before .before .before .before .before .before .before .args .rows) (omega arith) (omega arith), c .before .before .before .loop .inv .1 .size)
 
 add-start : tie.Need-add-start Inv-loop μ-loop
-add-start c = omega (arith, bound (c .before .before .before .before .before .before .before .args .n) (c .before .before .before .loop .k) (c .before .before .before .before .before .before .before .args .rows) (omega arith) (omega arith), c .before .before .before .loop .inv .1 .size)
+add-start c = omega (arith, row-end (c .before .before .before .before .before .before .before .args .n) (c .before .before .before .loop .k) (c .before .before .before .before .before .before .before .args .rows) (omega arith) (omega arith), c .before .before .before .loop .inv .1 .size)
 
 mul-end : tie.Need-mul-end Inv-loop μ-loop
-mul-end c = omega (arith, bound (c .before .before .before .before .before .before .before .args .n) (c .before .before .before .loop .k) (c .before .before .before .before .before .before .before .args .rows) (omega arith) (omega arith), c .before .before .before .loop .inv .1 .size)
+mul-end c = omega (arith, row-end (c .before .before .before .before .before .before .before .args .n) (c .before .before .before .loop .k) (c .before .before .before .before .before .before .before .args .rows) (omega arith) (omega arith), c .before .before .before .loop .inv .1 .size)
 
 add-end : tie.Need-add-end Inv-loop μ-loop
-add-end c = omega (arith, bound (c .before .before .before .before .before .before .before .args .n) (c .before .before .before .loop .k) (c .before .before .before .before .before .before .before .args .rows) (omega arith) (omega arith), c .before .before .before .loop .inv .1 .size)
+add-end c = omega (arith, row-end (c .before .before .before .before .before .before .before .args .n) (c .before .before .before .loop .k) (c .before .before .before .before .before .before .before .args .rows) (omega arith) (omega arith), c .before .before .before .loop .inv .1 .size)
 
 mul-product : tie.Need-mul-product Inv-loop μ-loop
-mul-product c = omega (arith, bound (c .before .before .before .before .before .before .before .args .n) (c .before .before .before .loop .k) (c .before .before .before .before .before .before .before .args .rows) (omega arith) (omega arith), c .before .before .before .loop .inv .1 .size)
+mul-product c = omega (arith, row-end (c .before .before .before .before .before .before .before .args .n) (c .before .before .before .loop .k) (c .before .before .before .before .before .before .before .args .rows) (omega arith) (omega arith), c .before .before .before .loop .inv .1 .size)
 
 slice-read-product : tie.Need-slice-read-product Inv-loop μ-loop
-slice-read-product c = omega (arith, bound (c .before .before .before .before .before .before .before .before .args .n) (c .before .before .before .before .loop .k) (c .before .before .before .before .before .before .before .before .args .rows) (omega arith) (omega arith), c .before .before .before .before .loop .inv .1 .size)
+slice-read-product c = omega (arith, row-end (c .before .before .before .before .before .before .before .before .args .n) (c .before .before .before .before .loop .k) (c .before .before .before .before .before .before .before .before .args .rows) (omega arith) (omega arith), c .before .before .before .before .loop .inv .1 .size)
 
 product-requires : tie.Need-product-requires Inv-loop μ-loop
 product-requires c κs = search needs
 
 mul-add-multiple : tie.Need-mul-add-multiple Inv-loop μ-loop
-mul-add-multiple c = omega (arith, bound (c .before .before .before .before .before .before .before .before .before .args .n) (c .before .before .before .before .before .loop .k) (c .before .before .before .before .before .before .before .before .before .args .rows) (omega arith) (omega arith), c .before .before .before .before .before .loop .inv .1 .size)
+mul-add-multiple c = omega (arith, row-end (c .before .before .before .before .before .before .before .before .before .args .n) (c .before .before .before .before .before .loop .k) (c .before .before .before .before .before .before .before .before .before .args .rows) (omega arith) (omega arith), c .before .before .before .before .before .loop .inv .1 .size)
 
 sub-add-multiple : tie.Need-sub-add-multiple Inv-loop μ-loop
 sub-add-multiple c = search needs
@@ -69,7 +65,7 @@ part-add-multiple-start : tie.Need-part-add-multiple-start Inv-loop μ-loop
 part-add-multiple-start c = search needs
 
 part-add-multiple-end : tie.Need-part-add-multiple-end Inv-loop μ-loop
-part-add-multiple-end c = omega (arith, bound (c .before .before .before .before .before .before .before .before .before .args .n) (c .before .before .before .before .before .loop .k) (c .before .before .before .before .before .before .before .before .before .args .rows) (omega arith) (omega arith), c .before .before .before .before .before .loop .inv .1 .size)
+part-add-multiple-end c = omega (arith, row-end (c .before .before .before .before .before .before .before .before .before .args .n) (c .before .before .before .before .before .loop .k) (c .before .before .before .before .before .before .before .before .before .args .rows) (omega arith) (omega arith), c .before .before .before .before .before .loop .inv .1 .size)
 
 -- the factor of a row
 factor : (level x v r : ℕ) → x < 2 ^ levelAt level .width → v < 2 ^ levelAt level .width → (x ≤ levelAt level .limit → v ≤ levelAt level .limit → r ≡ word (levelAt level) (F (levelAt level) .mul (small (levelAt level) x) (small (levelAt level) v))) → r ≡ timesWord (levelAt level) x v
@@ -80,7 +76,7 @@ add-multiple-requires c κs =
     let l = c .before .before .before .before .before .before .loop in
     let s = c .before .before .before .before .before .before .before .before .before .before in
     let a = s .args in
-    let room : l .k * a .n + a .n ≤ length (l .rest) = omega (arith, bound (a .n) (l .k) (a .rows) (omega arith) (omega arith), l .inv .1 .size) in (
+    let room : l .k * a .n + a .n ≤ length (l .rest) = omega (arith, row-end (a .n) (l .k) (a .rows) (omega arith) (omega arith), l .inv .1 .size) in (
       part-length (l .k * a .n + a .c) (l .k * a .n + a .n - (l .k * a .n + a .c)) (l .rest) (omega arith) ∙ omega (arith, s .pre .0 .5),
       words-part (levelAt (a .level)) (l .k * a .n + a .c) (l .k * a .n + a .n - (l .k * a .n + a .c)) (l .rest) (l .inv .2),
       s .pre .1 .1,

@@ -10,15 +10,11 @@ use Rattle.field.proofs.Fields.{bounded}
 use Rattle.galois.specs.Inverse.{inverse}
 use Rattle.elimination.specs.Steps.{entryAt}
 use Rattle.elimination.proofs.Words.{word-lt}
-use Rattle.elimination.proofs.Grids.{row-past, words-zeros, words-set, words-part, rest-length, tail-lent, tail-back}
+use Rattle.elimination.proofs.Grids.{row-end, words-zeros, words-set, words-part, rest-length, tail-lent, tail-back}
 use Rattle.elimination.proofs.Clearing.{whole}
 use borrow.Author.Needs.{needs}
 use Rattle.elimination.proofs.clear_below.Statement.{statement}
 use Rattle.elimination.proofs.clear_below.Tie as tie
-
--- where row p ends
-bound : (n p m : ℕ) → p < m → m ≤ 128 → (p * n + n ≤ 128 * n) × (p * n + n ≤ m * n)
-bound n p m q r = (row-past n 128 p (omega arith), row-past n m p q)
 
 abbrev Inv-loop : tie.InvT-loop
 Inv-loop matrix used p n m c level start row₀ j₀ row j = (c ≤ j) × (j ≤ n) × (length row ≡ 128) × Words (levelAt level) row × ((i : ℕ) → i < j → c ≤ i → getD row i 0 ≡ getD matrix (start + i) 0)
@@ -27,19 +23,19 @@ abbrev μ-loop : tie.MeasureT-loop
 μ-loop matrix used p n m c level start row₀ j₀ row j = n - j
 
 mul-start : tie.Need-mul-start Inv-loop μ-loop
-mul-start c = omega (arith, bound (c .before .before .args .n) (c .before .before .args .p) (c .before .before .args .m) (omega arith) (omega arith), c .before .before .pre .0 .0)
+mul-start c = omega (arith, row-end (c .before .before .args .n) (c .before .before .args .p) (c .before .before .args .m) (omega arith) (omega arith), c .before .before .pre .0 .0)
 
 loop-holds : tie.Need-loop-holds Inv-loop μ-loop
 loop-holds c = (omega arith, omega arith, refl, words-zeros (levelAt (c .before .before .args .level)) 128, λ i a b. absurd (omega arith))
 
 add-row : tie.Need-add-row Inv-loop μ-loop
-add-row c = omega (arith, bound (c .before .before .before .before .args .n) (c .before .before .before .before .args .p) (c .before .before .before .before .args .m) (omega arith) (omega arith), c .before .before .before .before .pre .0 .0)
+add-row c = omega (arith, row-end (c .before .before .before .before .args .n) (c .before .before .before .before .args .p) (c .before .before .before .before .args .m) (omega arith) (omega arith), c .before .before .before .before .pre .0 .0)
 
 mul-row : tie.Need-mul-row Inv-loop μ-loop
-mul-row c = omega (arith, bound (c .before .before .before .before .args .n) (c .before .before .before .before .args .p) (c .before .before .before .before .args .m) (omega arith) (omega arith), c .before .before .before .before .pre .0 .0)
+mul-row c = omega (arith, row-end (c .before .before .before .before .args .n) (c .before .before .before .before .args .p) (c .before .before .before .before .args .m) (omega arith) (omega arith), c .before .before .before .before .pre .0 .0)
 
 slice-read-row : tie.Need-slice-read-row Inv-loop μ-loop
-slice-read-row c = omega (arith, bound (c .before .before .before .before .before .args .n) (c .before .before .before .before .before .args .p) (c .before .before .before .before .before .args .m) (omega arith) (omega arith), c .before .before .before .before .before .pre .0 .0)
+slice-read-row c = omega (arith, row-end (c .before .before .before .before .before .args .n) (c .before .before .before .before .before .args .p) (c .before .before .before .before .before .args .m) (omega arith) (omega arith), c .before .before .before .before .before .pre .0 .0)
 
 mul-row-2 : tie.Need-mul-row-2 Inv-loop μ-loop
 mul-row-2 c = search needs
@@ -81,16 +77,16 @@ inverse-requires c κs =
     (omega (arith, e, s .pre .1 .1), omega (arith, l .inv .3 (a .c), bounded (a .level) .whole))
 
 add-rest : tie.Need-add-rest Inv-loop μ-loop
-add-rest c = omega (arith, bound (c .before .before .before .before .before .args .n) (c .before .before .before .before .before .args .p) (c .before .before .before .before .before .args .m) (omega arith) (omega arith), c .before .before .before .before .before .pre .0 .0)
+add-rest c = omega (arith, row-end (c .before .before .before .before .before .args .n) (c .before .before .before .before .before .args .p) (c .before .before .before .before .before .args .m) (omega arith) (omega arith), c .before .before .before .before .before .pre .0 .0)
 
 mul-clear : tie.Need-mul-clear Inv-loop μ-loop
-mul-clear c = omega (arith, bound (c .before .before .before .before .before .args .n) (c .before .before .before .before .before .args .p) (c .before .before .before .before .before .args .m) (omega arith) (omega arith), c .before .before .before .before .before .pre .0 .0)
+mul-clear c = omega (arith, row-end (c .before .before .before .before .before .args .n) (c .before .before .before .before .before .args .p) (c .before .before .before .before .before .args .m) (omega arith) (omega arith), c .before .before .before .before .before .pre .0 .0)
 
 sub-clear : tie.Need-sub-clear Inv-loop μ-loop
-sub-clear c = omega (arith, bound (c .before .before .before .before .before .args .n) (c .before .before .before .before .before .args .p) (c .before .before .before .before .before .args .m) (omega arith) (omega arith), c .before .before .before .before .before .pre .0 .0)
+sub-clear c = omega (arith, row-end (c .before .before .before .before .before .args .n) (c .before .before .before .before .before .args .p) (c .before .before .before .before .before .args .m) (omega arith) (omega arith), c .before .before .before .before .before .pre .0 .0)
 
 part-clear-start : tie.Need-part-clear-start Inv-loop μ-loop
-part-clear-start c = omega (arith, bound (c .before .before .before .before .before .args .n) (c .before .before .before .before .before .args .p) (c .before .before .before .before .before .args .m) (omega arith) (omega arith), c .before .before .before .before .before .pre .0 .0)
+part-clear-start c = omega (arith, row-end (c .before .before .before .before .before .args .n) (c .before .before .before .before .before .args .p) (c .before .before .before .before .before .args .m) (omega arith) (omega arith), c .before .before .before .before .before .pre .0 .0)
 
 part-clear-end : tie.Need-part-clear-end Inv-loop μ-loop
 part-clear-end c = search needs

@@ -83,6 +83,11 @@ fn half(n: usize, m: usize, generator: &mut Generator) -> Vec<u16> {
     rows.collect::<Vec<_>>().concat()
 }
 
+/// The matrix of the example in docs/specification.md, with this last entry.
+fn specified(last: u16) -> Vec<u16> {
+    vec![0, 1, 2, 3, 2, 4, 6, 1, 1, 6, 11, last]
+}
+
 /// All matrices.
 fn matrices() -> Vec<Named> {
     let generator = &mut Generator::new(4_000);
@@ -92,6 +97,12 @@ fn matrices() -> Vec<Named> {
         ("n02_m01_second_column".to_string(), 2, vec![0, 2047]),
         ("n03_m02_by_2".to_string(), 3, vec![2, 1, 0, 4, 2, 0]),
         ("n05_m04_2047".to_string(), 5, vec![2047; 20]),
+        ("n04_m03_specification".to_string(), 4, specified(1038)),
+        (
+            "n04_m03_specification_not_leaning".to_string(),
+            4,
+            specified(1039),
+        ),
     ];
     let mut push = |n, m, name: &str, h| list.push((format!("n{n:02}_m{m:02}_{name}"), n, h));
     for (n, m) in SMALL {

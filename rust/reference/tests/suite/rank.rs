@@ -112,6 +112,18 @@ fn small_matrices_by_hand() {
     for (n, h, rank, matrix) in cases {
         assert_eq!(rank_of(n, h), (rank, matrix.to_vec()), "{h:?}");
     }
+    // The example of docs/specification.md: row 1 is taken, then row 0, and row 2
+    // leans on both, unless its last entry is another one.
+    let h = [0, 1, 2, 3, 2, 4, 6, 1, 1, 6, 11, 1038];
+    assert_eq!(
+        rank_of(4, &h),
+        (2, vec![0, 1, 2, 3, 2, 4, 6, 1, 0, 0, 0, 0])
+    );
+    let h = [0, 1, 2, 3, 2, 4, 6, 1, 1, 6, 11, 1039];
+    assert_eq!(
+        rank_of(4, &h),
+        (3, vec![0, 1, 2, 3, 2, 4, 6, 1, 0, 0, 0, 1])
+    );
 }
 
 /// Whether some coefficients, not all zero, combine the rows to zero: all of

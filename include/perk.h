@@ -14,10 +14,11 @@
  *
  *     if (perk_verify(..) == PERK_ACCEPTED) ..       and not: if (perk_verify(..)) ..
  *
- * Any other number is a refusal, 1 to 12, 14, 15, 16 or 19, and then every output holds what it held before. Refusals are
- * tried in the order in which a function lists them; the first that applies is the result. Sizes and lengths are decided
- * before any slice is read, so that a length in bytes for one in words is refused with 3; this is tested, and not part of
- * the proof.
+ * Any other number is a refusal, 1 to 16 or 19, and then every output holds what it held before. Refusals are tried in the
+ * order in which a function lists them; the first that applies is the result. Sizes and lengths are decided before any
+ * slice is read, so that a length in bytes for one in words is refused with 3; this is tested, and not part of the proof.
+ * Files have no stated length: the readers take any number of bytes, and the output of perk_write_package may be longer
+ * than the package, and is refused with 13, after everything else, where it is shorter.
  *
  * Numbers. An element of F is a number 0 to 2047 whose bit i is the coefficient of z^i, with z^11 = z^2 + 1. An element
  * of K is PERK_ELEMENT_WORDS = 12 words, coordinate 0 first, each an element of F, with Y^12 = Y^3 + 1; several elements
@@ -57,9 +58,9 @@
 #include <stddef.h>
 #include <stdint.h>
 
-#define PERK_VERSION "0.5.0"
+#define PERK_VERSION "0.6.0"
 #define PERK_VERSION_MAJOR 0
-#define PERK_VERSION_MINOR 5
+#define PERK_VERSION_MINOR 6
 #define PERK_VERSION_PATCH 0
 
 /* results */
@@ -80,6 +81,7 @@
 #define PERK_TAG 10          /* not the tag that comes next */
 #define PERK_FIELD_LENGTH 11 /* not a length that the field has for these sizes */
 #define PERK_BYTES_FOLLOW 12 /* bytes follow the last field */
+#define PERK_SHORT_OUTPUT 13 /* the output is shorter than what is to be written */
 #define PERK_ZERO_TARGET 14  /* field 04 is present and all its elements are zero */
 #define PERK_DEPENDENT_ROWS 15 /* some coefficients from F, not all zero, combine the rows of H to zero */
 #define PERK_SPARE_CODE 16   /* a position is a spare code, n to 2^d - 1, which names no column; none is 2^d or more */
@@ -113,7 +115,8 @@
 
 /*
  * lengths of files: of one with these sizes and this serial, and of the largest; target is 1 where some element of y is
- * not zero, and 0 where all are, and field 04 is left out
+ * not zero, and 0 where all are, and field 04 is left out. perk_write_package needs an output of PERK_PACKAGE_BYTES, and one
+ * of PERK_LARGEST_PACKAGE_BYTES is long enough for every package
  */
 #define PERK_PACKAGE_BYTES(n, m, target, serial) \
     (20 + 2 * (m) * (n) + 2 * (n) + ((target) ? 3 + 2 * (m) : 0) + PERK_SERIAL_BYTES(serial) + (n) * PERK_DIGITS(n) + \
@@ -336,6 +339,38 @@ PERK_LOOK_AT_RESULT
 size_t perk_field(const uint8_t *bytes, size_t bytes_len, uint8_t tag, size_t *start);
 
 /*
+ * The package of a key, a serial, a masked witness t and a proof a, in the form that perk_read_package takes.
+ *
+ *   h            m n words       x            n words       y            m words
+ *   serial       any number of 32 bits
+ *   t            n d bytes       a            12 d words
+ *   out          at least as many bytes as the package has, written: the package; the bytes after it stay as they are
+ *   length       a number of the caller's, not within any of the slices; written: how many bytes the package has
+ *
+ * Each package has one form: field 04 is left out where y is all zero, and the serial has two bytes where it fits them,
+ * else four. So the length is PERK_PACKAGE_BYTES(n, m, target, serial), and PERK_LARGEST_PACKAGE_BYTES is room for every
+ * package.
+ *
+ * How to use it: lend the key, and t and a as perk_prove wrote them; the first *length bytes of out are then the file to
+ * store or to send. Nothing is verified here: t and a may be any within the limits, and perk_verify says whether a proof is
+ * accepted.
+ *
+ * Refusals: 1, 2, 3 (h, x, y, t, a; not out), 4 (h, x, y), 15 (h), 5 (t), 6 (a), and then 13, where out is shorter than the
+ * package. On each of them out and length keep what they hold. 14 and 19 speak of a form, which is chosen here, and come
+ * from the readers alone.
+ *
+ * Proved besides: perk_read_package takes what was written, with the same n, m and serial, and perk_field finds in it what
+ * was lent, for every tag, and nothing for 04 where y is all zero. And for every package that perk_read_package takes, its
+ * fields, with m zeros as y where 04 is absent, are written into an out of at least its length as its very bytes.
+ *
+ * Stack: under 12 KiB.
+ */
+PERK_LOOK_AT_RESULT
+uint32_t perk_write_package(size_t n, size_t m, const uint16_t *h, size_t h_len, const uint16_t *x, size_t x_len,
+                            const uint16_t *y, size_t y_len, uint32_t serial, const uint8_t *t, size_t t_len,
+                            const uint16_t *a, size_t a_len, uint8_t *out, size_t out_len, size_t *length);
+
+/*
  * Whether a check file's proof is accepted: the refusal of perk_read_check_file where there is one, else 0 or 255 as
  * perk_verify answers on the fields, with m zeros as y where 04 is absent; none of its refusals then applies.
  * Stack: under 40 KiB.
@@ -365,6 +400,7 @@ static inline const char *perk_refusal_text(uint32_t number) {
     case PERK_TAG: return "a tag is not the one that comes next";
     case PERK_FIELD_LENGTH: return "a field's length is not one stated for it";
     case PERK_BYTES_FOLLOW: return "bytes follow the last field";
+    case PERK_SHORT_OUTPUT: return "the output is shorter than what is to be written";
     case PERK_ZERO_TARGET: return "field 04 is present and all its elements are zero";
     case PERK_DEPENDENT_ROWS: return "some coefficients from F, not all zero, combine the rows of H to zero";
     case PERK_SPARE_CODE: return "a position is a spare code, n to 2^d - 1, which names no column";

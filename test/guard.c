@@ -1,7 +1,7 @@
 /*
  * Lengths are decided before a slice is read: each slice ends where memory ends, and where its stated length is too long, as a length in bytes
  * for one in words is, the answer is 3 and nothing past the end is read. The readers take files that end where memory ends, whole and cut at
- * every byte. Prints how many calls were made.
+ * every byte, and a package is written to outputs that end there, from none to its length. Prints how many calls were made.
  */
 #include <stdint.h>
 #include <stdio.h>
@@ -46,6 +46,11 @@ static uint32_t prove(struct slice *s) {
 static uint32_t verify(struct slice *s) {
     return perk_verify(N, M, KEY(s), BYTES(s[3]), WORDS(s[4]), WORDS(s[5]), WORDS(s[6]), WORDS(s[7]), WORDS(s[8]));
 }
+static uint32_t write_package(struct slice *s) {
+    static uint8_t out[PERK_PACKAGE_BYTES(N, M, 0, 7)];
+    size_t length;
+    return perk_write_package(N, M, KEY(s), 7, BYTES(s[3]), WORDS(s[4]), out, sizeof out, &length);
+}
 
 #define F(count) {count, 2, NULL, 0}
 #define K(count) {W * (count), 2, NULL, 0}
@@ -64,6 +69,7 @@ static struct {
     {"perk_values", values, {OF_KEY, B(N * D), K(N * D), K(1), K(N + M)}},
     {"perk_prove", prove, {OF_KEY, B(N), B(N * D), K(N * D), K(D - 1), K(D - 1), K(N + M), B(N * D), K(D)}},
     {"perk_verify", verify, {OF_KEY, B(N * D), K(N * D), K(1), K(D - 1), K(N + M), K(D)}},
+    {"perk_write_package", write_package, {OF_KEY, B(N * D), K(D)}},
 };
 
 /* zeros that end where a page begins that cannot be read */
@@ -77,8 +83,8 @@ static void place(struct slice *s) {
 
 static unsigned calls, failed;
 
-/* one call of a reader */
-static void read_to_end(const char *name, size_t len, uint32_t found, uint32_t stated) {
+/* one call with bytes that end where memory ends */
+static void at_end(const char *name, size_t len, uint32_t found, uint32_t stated) {
     calls++;
     if (found == stated) return;
     printf("%s: %u for %zu bytes\n", name, (unsigned)found, len);
@@ -113,15 +119,41 @@ static void file(const uint8_t *y, size_t y_len, const uint8_t *serial, size_t s
         uint8_t *end = (uint8_t *)s.start + len, *from = end - part;
         memcpy(from, bytes, part);
         uint32_t stated = part < len ? PERK_BYTES_MISSING : PERK_DONE;
-        read_to_end("perk_read_check_file", part, perk_read_check_file(from, part, &n, &m, &number), stated);
-        read_to_end("perk_check", part, perk_check(from, part), stated);
+        at_end("perk_read_check_file", part, perk_read_check_file(from, part, &n, &m, &number), stated);
+        at_end("perk_check", part, perk_check(from, part), stated);
         stated = part < package_len ? PERK_BYTES_MISSING : part > package_len ? PERK_BYTES_FOLLOW : PERK_DONE;
-        read_to_end("perk_read_package", part, perk_read_package(from, part, &n, &m, &number), stated);
+        at_end("perk_read_package", part, perk_read_package(from, part, &n, &m, &number), stated);
         uint32_t length = (uint32_t)perk_field(from, part, PERK_TAG_SERIAL, &start);
-        read_to_end("perk_field", part, length, part == package_len ? (uint32_t)(serial_len - 3) : 0);
+        at_end("perk_field", part, length, part == package_len ? (uint32_t)(serial_len - 3) : 0);
         length = (uint32_t)perk_field(from, part, PERK_TAG_Y, &start);
-        read_to_end("perk_field", part, length, part == package_len && y_len > 0 ? (uint32_t)(y_len - 3) : 0);
+        at_end("perk_field", part, length, part == package_len && y_len > 0 ? (uint32_t)(y_len - 3) : 0);
     }
+}
+
+/* the package of a key with unit rows, this last element of y and zeros, with this serial, to outputs that end where memory ends: nothing is
+   written to one that is too short, and one of the package's length is read back */
+static void output(uint16_t last, uint32_t serial) {
+    static const uint16_t x[N], a[W * D];
+    static const uint8_t t[N * D];
+    uint16_t h[M * N] = {0}, y[M] = {0};
+    for (size_t i = 0; i < M; i++) h[i * N + i] = 1;
+    y[M - 1] = last;
+    size_t exact = PERK_PACKAGE_BYTES(N, M, last != 0, serial);
+    struct slice s = {exact, 1, NULL, 0};
+    place(&s);
+    uint8_t *start = s.start;
+    for (size_t room = 0; room <= exact; room++) {
+        size_t length = SIZE_MAX, kept = 0;
+        memset(start, 0xA5, exact);
+        at_end("perk_write_package", room, perk_write_package(N, M, h, M * N, x, N, y, M, serial, t, N * D, a, W * D, start + exact - room, room, &length),
+               room < exact ? PERK_SHORT_OUTPUT : PERK_DONE);
+        while (kept < exact && start[kept] == 0xA5) kept++;
+        if (room < exact ? kept == exact && length == SIZE_MAX : length == exact) continue;
+        printf("perk_write_package: output or length for %zu bytes\n", room);
+        failed++;
+    }
+    uint32_t n, m, number;
+    at_end("perk_read_package", exact, perk_read_package(start, exact, &n, &m, &number), PERK_DONE);
 }
 
 int main(void) {
@@ -130,6 +162,10 @@ int main(void) {
     for (size_t y_len = 0; y_len <= sizeof y; y_len += sizeof y) {
         file(y, y_len, short_serial, sizeof short_serial);
         file(y, y_len, long_serial, sizeof long_serial);
+    }
+    for (uint16_t last = 0; last <= 2047; last += 2047) {
+        output(last, 65535);
+        output(last, 65536);
     }
     for (size_t e = 0; e < sizeof entries / sizeof *entries; e++) {
         struct slice *s = entries[e].slices;

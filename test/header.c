@@ -13,6 +13,10 @@ static uint16_t h[PERK_H_WORDS(N, M)], matrix[PERK_MATRIX_WORDS(N, M)], x[PERK_X
 static uint16_t alpha[PERK_ALPHA_WORDS(N, M)], polynomials[PERK_POLYNOMIALS_WORDS(N, M)], a[PERK_A_WORDS(N)], q[PERK_Q_WORDS(N)];
 static uint16_t delta[PERK_DELTA_WORDS], masks[PERK_MASKS_WORDS(N)], values[PERK_VALUES_WORDS(N, M)];
 static uint8_t positions[PERK_POSITIONS_BYTES(N)], u[PERK_U_BYTES(N)], t[PERK_T_BYTES(N)], bytes[PERK_LARGEST_CHECK_FILE_BYTES + 1];
+static uint8_t out[PERK_LARGEST_PACKAGE_BYTES + 2];
+/* the masked witness and the proof in the files */
+static const uint8_t no_bits[PERK_T_BYTES(N)];
+static const uint16_t no_words[PERK_A_WORDS(N)];
 typedef char largest[PERK_PACKAGE_BYTES(N, M, 1, 65536) == PERK_LARGEST_PACKAGE_BYTES &&
                      PERK_CHECK_FILE_BYTES(N, M, 1, 65536) == sizeof bytes - 1 ? 1 : -1];
 typedef char lengths[PERK_SERIAL_BYTES(0) == 2 && PERK_SERIAL_BYTES(65535) == 2 && PERK_SERIAL_BYTES(65536) == 4 &&
@@ -69,11 +73,36 @@ static size_t check_file(size_t n, size_t m, size_t at) {
     return field(at, PERK_TAG_ALPHA, 2 * PERK_ALPHA_WORDS(n, m));
 }
 
+/* whether out has 7 in its bytes from this one on */
+static int kept_from(size_t at) {
+    while (at < sizeof out && out[at] == 7) at++;
+    return at == sizeof out;
+}
+
+/* the package in bytes is what perk_write_package writes to outputs of its length, of one byte more and of two; one byte less is refused */
+static void writes(size_t n, size_t m, int target, uint32_t serial, size_t of_package) {
+    size_t length;
+    y[m - 1] = target ? 256 : 0;
+    for (size_t room = of_package + 2; room >= of_package - 1; room--) {
+        memset(out, 7, sizeof out);
+        length = 5;
+        expect("write package", n, m, perk_write_package(n, m, h, PERK_H_WORDS(n, m), x, PERK_X_WORDS(n), y, PERK_Y_WORDS(m), serial, no_bits,
+               PERK_T_BYTES(n), no_words, PERK_A_WORDS(n), out, room, &length), room < of_package ? PERK_SHORT_OUTPUT : PERK_DONE);
+        if (room < of_package)
+            expect("length and output kept", n, m, length == 5 && kept_from(0) ? PERK_DONE : PERK_REJECTED, PERK_DONE);
+        else
+            expect("the package written", n, m, length == of_package && memcmp(out, bytes, length) == 0 && kept_from(length) ? PERK_DONE : PERK_REJECTED,
+                   PERK_DONE);
+    }
+    y[m - 1] = 0;
+}
+
 /* the files of these sizes with and without a target and with this serial, as they are written and as they are read */
 static void files(size_t n, size_t m, int target, uint32_t written) {
     uint32_t read_n = 0, read_m = 0, serial = ~written;
     size_t start, of_package = package(n, m, target, written, PERK_SERIAL_BYTES(written));
     expect("length of a package", n, m, of_package == PERK_PACKAGE_BYTES(n, m, target, written) ? PERK_DONE : PERK_SLICE_LENGTH, PERK_DONE);
+    writes(n, m, target, written, of_package);
     expect("read package", n, m, perk_read_package(bytes, of_package, &read_n, &read_m, &serial), PERK_DONE);
     expect("sizes", n, m, read_n == n && read_m == m && serial == written ? PERK_DONE : PERK_REJECTED, PERK_DONE);
     size_t length = perk_field(bytes, of_package, PERK_TAG_SERIAL, &start);
@@ -180,6 +209,11 @@ static void dependent(const char *what, size_t n, size_t m) {
            PERK_DELTA_WORDS, values, PERK_VALUES_WORDS(n, m)), PERK_DEPENDENT_ROWS);
     expect(what, n, m, perk_verify(n, m, h, PERK_H_WORDS(n, m), x, PERK_X_WORDS(n), y, PERK_Y_WORDS(m), t, PERK_T_BYTES(n), q, PERK_Q_WORDS(n), delta,
            PERK_DELTA_WORDS, masks, PERK_MASKS_WORDS(n), alpha, PERK_ALPHA_WORDS(n, m), a, PERK_A_WORDS(n)), PERK_DEPENDENT_ROWS);
+    /* t with bytes above 1 and an output that is too short come later as well */
+    memset(out, 7, sizeof out);
+    expect(what, n, m, perk_write_package(n, m, h, PERK_H_WORDS(n, m), x, PERK_X_WORDS(n), y, PERK_Y_WORDS(m), 7, t, PERK_T_BYTES(n), no_words,
+           PERK_A_WORDS(n), out, 5, &start), PERK_DEPENDENT_ROWS);
+    expect("length and output kept", n, m, start == 5 && kept_from(0) ? PERK_DONE : PERK_REJECTED, PERK_DONE);
     for (size_t i = 0; i < PERK_T_BYTES(n); i++)
         if (t[i] != 7) failed = 1;
     for (size_t i = 0; i < PERK_A_WORDS(n); i++)
@@ -300,16 +334,33 @@ static void material(void) {
            PERK_KEY_ELEMENT);
 }
 
-/* each of 0 to 12, 14, 15, 16, 19 and 255 has a text, and no two the same; every other number has one text */
+/* writing a package at n = 2, m = 1: the refusals in their order, each together with faults of all that come later */
+static void writer(void) {
+    static const uint16_t row[2] = {1, 0}, small[2] = {0, 0}, above[12] = {2048}, element[12] = {0};
+    static const uint8_t bits[2] = {0, 1}, large[2] = {0, 2};
+    size_t length = 5;
+    memset(out, 7, sizeof out);
+    expect("30", 2, 1, perk_write_package(1, 1, above, 1, above, 2, above, 1, 7, large, 2, above, 12, out, 0, &length), PERK_SIZE_N);
+    expect("31", 2, 1, perk_write_package(2, 2, above, 1, above, 2, above, 1, 7, large, 2, above, 12, out, 0, &length), PERK_SIZE_M);
+    expect("32", 2, 1, perk_write_package(2, 1, above, 1, above, 2, above, 1, 7, large, 2, above, 12, out, 0, &length), PERK_SLICE_LENGTH);
+    expect("33", 2, 1, perk_write_package(2, 1, small, 2, small, 2, above, 1, 7, large, 2, above, 12, out, 0, &length), PERK_KEY_ELEMENT);
+    expect("34", 2, 1, perk_write_package(2, 1, small, 2, small, 2, small, 1, 7, large, 2, above, 12, out, 0, &length), PERK_DEPENDENT_ROWS);
+    expect("35", 2, 1, perk_write_package(2, 1, row, 2, small, 2, small, 1, 7, large, 2, above, 12, out, 0, &length), PERK_BIT);
+    expect("36", 2, 1, perk_write_package(2, 1, row, 2, small, 2, small, 1, 7, bits, 2, above, 12, out, 0, &length), PERK_COORDINATE);
+    expect("37", 2, 1, perk_write_package(2, 1, row, 2, small, 2, small, 1, 7, bits, 2, element, 12, out, 0, &length), PERK_SHORT_OUTPUT);
+    expect("length and output kept", 2, 1, length == 5 && kept_from(0) ? PERK_DONE : PERK_REJECTED, PERK_DONE);
+}
+
+/* each of 0 to 16, 19 and 255 has a text, and no two the same; every other number has one text */
 static void texts(void) {
-    static const uint32_t numbers[] = {0, 1, 2, 3, 4, 5, 6, 7, 8, 9, 10, 11, 12, 14, 15, 16, 19, 255, 13};
-    static const uint32_t others[] = {17, 18, 20, 254, 256, UINT32_MAX};
+    static const uint32_t numbers[] = {0, 1, 2, 3, 4, 5, 6, 7, 8, 9, 10, 11, 12, 13, 14, 15, 16, 19, 255, 17};
+    static const uint32_t others[] = {18, 20, 254, 256, UINT32_MAX};
     size_t count = sizeof numbers / sizeof *numbers;
     for (size_t i = 0; i < count; i++)
         for (size_t j = 0; j < i; j++)
             if (strcmp(perk_refusal_text(numbers[i]), perk_refusal_text(numbers[j])) == 0) failed = 1;
     for (size_t i = 0; i < sizeof others / sizeof *others; i++)
-        if (strcmp(perk_refusal_text(others[i]), perk_refusal_text(13)) != 0) failed = 1;
+        if (strcmp(perk_refusal_text(others[i]), perk_refusal_text(17)) != 0) failed = 1;
     if (strcmp(perk_refusal_text(PERK_REJECTED), "rejected") != 0) failed = 1;
 }
 
@@ -320,6 +371,7 @@ int main(void) {
         if (n > 2) sizes(n, n - 1);
     }
     material();
+    writer();
     texts();
     return failed;
 }

@@ -26,6 +26,9 @@ int main(void) {
         expect("values", perk_values(KEY, NONE, NONE, NONE, NONE), stated);
         expect("prove", perk_prove(KEY, NONE, NONE, NONE, NONE, NONE, NONE, NONE, NONE), stated);
         expect("verify", perk_verify(KEY, NONE, NONE, NONE, NONE, NONE, NONE), stated);
+        size_t length = 5;
+        expect("write package", perk_write_package(KEY, 7, NONE, NONE, NONE, &length), stated);
+        expect("the length kept", length == 5, 1);
     }
     uint32_t kept[3] = {7, 8, 9};
     size_t start = 5;
@@ -35,5 +38,11 @@ int main(void) {
     expect("field", (uint32_t)perk_field(NONE, 2, &start), 0);
     expect("its start", (uint32_t)start, 0);
     expect("check", perk_check(NONE), 9);
+    /* no length is stated for the output of a package: it is too short */
+    static const uint16_t row[2] = {1, 0}, zeros[12];
+    static const uint8_t bits[2];
+    size_t length = 5;
+    expect("write package to nothing", perk_write_package(2, 1, row, 2, zeros, 2, zeros, 1, 7, bits, 2, zeros, 12, NONE, &length), 13);
+    expect("the length kept", length == 5, 1);
     return failed;
 }

@@ -14,7 +14,9 @@ enum { N = 64, M = 63, D = 6, W = 12, SIZE = 1 << 20, PAINT = 0xA5 };
 
 static uint16_t h[M * N], x[N], y[M], v[W * N * D], r[W * (D - 1)], s[W * (D - 1)], alpha[W * (N + M)], a[W * D], q[W * N * D];
 static uint16_t matrix[M * N], delta[W], masks[W * (D - 1)], polynomials[W * (N + M) * (D + 1)], values[W * (N + M)], out[W];
-static uint8_t positions[N], u[N * D], t[N * D], file[32768];
+/* a y that is not all zero, so that a package has a field of it */
+static uint16_t target[M] = {1};
+static uint8_t positions[N], u[N * D], t[N * D], package[PERK_LARGEST_PACKAGE_BYTES], file[32768];
 static size_t file_len, package_len;
 
 /* the key, as every function with a key takes it */
@@ -38,6 +40,10 @@ static uint32_t prove(void) {
 }
 static uint32_t verify(void) {
     return perk_verify(KEY, t, N * D, q, W * N * D, delta, W, masks, W * (D - 1), alpha, W * (N + M), a, W * D);
+}
+static uint32_t write_package(void) {
+    size_t length;
+    return perk_write_package(N, M, h, M * N, x, N, target, M, UINT32_MAX, t, N * D, a, W * D, package, sizeof package, &length);
 }
 static uint32_t read_package(void) {
     uint32_t n, m, serial;
@@ -108,7 +114,7 @@ static void remove_y(void) {
 
 int main(int argc, char **argv) {
     /* the first of the functions that take a file */
-    enum { FILES = 7 };
+    enum { FILES = 8 };
     static const struct {
         const char *name;
         uint32_t (*call)(void);
@@ -120,6 +126,7 @@ int main(int argc, char **argv) {
                  {"perk_values", value, 14 * 1024},
                  {"perk_prove", prove, 24 * 1024},
                  {"perk_verify", verify, 20 * 1024},
+                 {"perk_write_package", write_package, 12 * 1024},
                  {"perk_read_package", read_package, 12 * 1024},
                  {"perk_read_check_file", read_check_file, 12 * 1024},
                  {"perk_field", field, 12 * 1024},

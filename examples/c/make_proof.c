@@ -14,34 +14,6 @@ enum { N = 2, M = 1, SERIAL = 7 };
 
 /* room for a serial of four bytes; without a target */
 static uint8_t package[PERK_PACKAGE_BYTES(N, M, 0, UINT32_MAX)];
-static size_t length;
-
-static void put_byte(unsigned byte) { package[length++] = (uint8_t)byte; }
-
-static void put_word(unsigned word) {
-    put_byte(word >> 8);
-    put_byte(word & 255);
-}
-
-static void put_words(unsigned tag, const uint16_t *words, size_t count) {
-    put_byte(tag);
-    put_word((unsigned)(2 * count));
-    for (size_t i = 0; i < count; i++) put_word(words[i]);
-}
-
-static void put_bytes(unsigned tag, const uint8_t *bytes, size_t count) {
-    put_byte(tag);
-    put_word((unsigned)count);
-    for (size_t i = 0; i < count; i++) put_byte(bytes[i]);
-}
-
-/* the field of a serial, highest byte first: two bytes where it fits them, else four */
-static void put_serial(uint32_t serial) {
-    unsigned count = PERK_SERIAL_BYTES(serial);
-    put_byte(PERK_TAG_SERIAL);
-    put_word(count);
-    while (count-- > 0) put_byte(serial >> (8 * count) & 255);
-}
 
 int main(int argc, char **argv) {
     /* the key: H, x and y, which is zero, since this key has no target */
@@ -70,17 +42,14 @@ int main(int argc, char **argv) {
     uint32_t result = perk_prove(N, M, h, PERK_H_WORDS(N, M), x, PERK_X_WORDS(N), y, PERK_Y_WORDS(M), positions,
                                  PERK_POSITIONS_BYTES(N), u, PERK_U_BYTES(N), v, PERK_V_WORDS(N), NULL, PERK_R_WORDS(N), NULL, PERK_S_WORDS(N), alpha, PERK_ALPHA_WORDS(N, M),
                                  t, PERK_T_BYTES(N), a, PERK_A_WORDS(N));
+    /* the package has no field of y, which is zero, and two or four bytes of the serial */
+    size_t length = 0;
+    if (result == PERK_DONE)
+        result = perk_write_package(N, M, h, PERK_H_WORDS(N, M), x, PERK_X_WORDS(N), y, PERK_Y_WORDS(M), (uint32_t)serial, t, PERK_T_BYTES(N),
+                                    a, PERK_A_WORDS(N), package, sizeof package, &length);
     if (result != PERK_DONE) {
         fprintf(stderr, "refused %u: %s\n", (unsigned)result, perk_refusal_text(result));
         return 1;
     }
-
-    put_bytes(PERK_TAG_SIZES, (const uint8_t[2]){N, M}, 2);
-    put_words(PERK_TAG_H, h, PERK_H_WORDS(N, M));
-    put_words(PERK_TAG_X, x, PERK_X_WORDS(N));
-    /* a y of zeros has no field; any other one has PERK_TAG_Y here */
-    put_serial((uint32_t)serial);
-    put_bytes(PERK_TAG_T, t, PERK_T_BYTES(N));
-    put_words(PERK_TAG_A, a, PERK_A_WORDS(N));
     return fwrite(package, 1, length, stdout) == length && fflush(stdout) == 0 ? 0 : 1;
 }

@@ -1,6 +1,6 @@
 /*
  * A whole run at n = 64 and m = 27, with masks: makes a key with a target that a random order solves, makes honest correlations,
- * proves, writes the check file, checks it, changes a byte, and reads fields back.
+ * proves, writes the package and the check file, checks it, changes a byte, and reads fields back.
  *
  *   gcc -I../../include whole_run.c ../../target/staticlib/libperk.a -o whole_run
  *   ./whole_run run.check && ../../bin/perkcheck < run.check
@@ -24,7 +24,7 @@ enum { TARGET = 1 };
 static uint16_t h[PERK_H_WORDS(N, M)], x[PERK_X_WORDS(N)], y[PERK_Y_WORDS(M)], v[N * D][W], r[D - 1][W], s[D - 1][W], alpha[PERK_ALPHA_WORDS(N, M)];
 static uint16_t q[N * D][W], delta[W], masks[D - 1][W], a[PERK_A_WORDS(N)];
 static uint8_t positions[N], u[N * D], t[PERK_T_BYTES(N)], file[PERK_CHECK_FILE_BYTES(N, M, TARGET, SERIAL)];
-static size_t file_len;
+static size_t file_len, package_len;
 
 /* stops the program where a call is not done */
 static void done(const char *what, uint32_t result) {
@@ -102,39 +102,22 @@ static uint32_t prove(void) {
                       sizeof t, a, PERK_A_WORDS(N));
 }
 
-static void put_head(unsigned tag, size_t length) {
-    file[file_len++] = (uint8_t)tag;
-    file[file_len++] = (uint8_t)(length >> 8);
-    file[file_len++] = (uint8_t)(length & 255);
-}
-
+/* a field of numbers of two bytes */
 static void put_words(unsigned tag, const uint16_t *words, size_t count) {
-    put_head(tag, 2 * count);
+    file[file_len++] = (uint8_t)tag;
+    file[file_len++] = (uint8_t)(2 * count >> 8);
+    file[file_len++] = (uint8_t)(2 * count & 255);
     for (size_t i = 0; i < count; i++) {
         file[file_len++] = (uint8_t)(words[i] >> 8);
         file[file_len++] = (uint8_t)(words[i] & 255);
     }
 }
 
-/* highest byte first, in as many bytes as the number must have */
-static void put_serial(uint32_t serial) {
-    unsigned count = PERK_SERIAL_BYTES(serial);
-    put_head(PERK_TAG_SERIAL, count);
-    while (count-- > 0) file[file_len++] = (uint8_t)(serial >> (8 * count) & 255);
-}
-
+/* the package, and after it the verifier's fields */
 static void make_file(void) {
-    put_head(PERK_TAG_SIZES, 2);
-    file[file_len++] = N;
-    file[file_len++] = M;
-    put_words(PERK_TAG_H, h, PERK_H_WORDS(N, M));
-    put_words(PERK_TAG_X, x, PERK_X_WORDS(N));
-    put_words(PERK_TAG_Y, y, PERK_Y_WORDS(M));
-    put_serial(SERIAL);
-    put_head(PERK_TAG_T, sizeof t);
-    memcpy(file + file_len, t, sizeof t);
-    file_len += sizeof t;
-    put_words(PERK_TAG_A, a, PERK_A_WORDS(N));
+    done("write package", perk_write_package(N, M, h, PERK_H_WORDS(N, M), x, PERK_X_WORDS(N), y, PERK_Y_WORDS(M), SERIAL, t, sizeof t, a,
+                                             PERK_A_WORDS(N), file, sizeof file, &package_len));
+    file_len = package_len;
     put_words(PERK_TAG_Q, q[0], PERK_Q_WORDS(N));
     put_words(PERK_TAG_MASKS, masks[0], PERK_MASKS_WORDS(N));
     put_words(PERK_TAG_DELTA, delta, PERK_DELTA_WORDS);
@@ -177,7 +160,7 @@ int main(int argc, char **argv) {
 
     /* the package is the first part of the check file */
     uint32_t n, m, serial;
-    size_t package_len = PERK_PACKAGE_BYTES(N, M, TARGET, SERIAL), start, length;
+    size_t start, length;
     done("read check file", perk_read_check_file(file, file_len, &n, &m, &serial));
     printf("n %u m %u serial %lu, %lu bytes, of which %lu are the package\n", (unsigned)n, (unsigned)m, (unsigned long)serial,
            (unsigned long)file_len, (unsigned long)package_len);

@@ -1,6 +1,6 @@
-//! Tells by `cfg(other_rank)` whether the other build of the library, which the
-//! feature `other` links, has the entry rank: builds from before that entry
-//! have no such function to link.
+//! Tells by `cfg(other_rank)` and `cfg(other_write_package)` whether the other
+//! build of the library, which the feature `other` links, has these entries:
+//! builds from before an entry have no such function to link.
 
 use std::env;
 use std::path::{Path, PathBuf};
@@ -9,8 +9,9 @@ use std::process::{exit, Command};
 /// The archive of the other build, as `bin/bench` makes it.
 const ARCHIVE: &str = "libperk_other.a";
 
-/// Its function.
-const FUNCTION: &str = "other_perk_rank";
+/// The entries that another build may not have. The names of its functions are
+/// theirs after `other_perk_`.
+const ENTRIES: [&str; 2] = ["rank", "write_package"];
 
 /// The archive in the directories that the flags of the compiler name: `-L` and
 /// then, or at once, `native=` and the directory.
@@ -23,29 +24,32 @@ fn archive() -> Option<PathBuf> {
     archives.find(|archive| archive.is_file())
 }
 
-/// Whether `nm` lists the function among those that the archive has.
-fn has_rank(archive: &Path) -> bool {
+/// What `nm` lists of the archive.
+fn listed(archive: &Path) -> String {
     let output = Command::new("nm").arg(archive).output();
     let Ok(output) = output else {
         eprintln!("nm cannot be run: it lists the functions of {ARCHIVE}");
         exit(1);
     };
-    let list = String::from_utf8_lossy(&output.stdout);
-    let ends = format!(" T {FUNCTION}");
-    list.lines().any(|line| line.ends_with(&ends))
+    String::from_utf8_lossy(&output.stdout).into_owned()
 }
 
 fn main() {
-    println!("cargo:rustc-check-cfg=cfg(other_rank)");
+    for entry in ENTRIES {
+        println!("cargo:rustc-check-cfg=cfg(other_{entry})");
+    }
     println!("cargo:rerun-if-changed=build.rs");
     println!("cargo:rerun-if-env-changed=CARGO_ENCODED_RUSTFLAGS");
     if env::var_os("CARGO_FEATURE_OTHER").is_none() {
         return;
     }
-    if let Some(archive) = archive() {
-        println!("cargo:rerun-if-changed={}", archive.display());
-        if has_rank(&archive) {
-            println!("cargo:rustc-cfg=other_rank");
+    let Some(archive) = archive() else { return };
+    println!("cargo:rerun-if-changed={}", archive.display());
+    let list = listed(&archive);
+    for entry in ENTRIES {
+        let ends = format!(" T other_perk_{entry}");
+        if list.lines().any(|line| line.ends_with(&ends)) {
+            println!("cargo:rustc-cfg=other_{entry}");
         }
     }
 }

@@ -24,7 +24,8 @@ use Rattle.package.proofs.Forms.{check-file-faithful}
 use Rattle.verifier.specs.Entry.{verifyLent}
 use Rattle.verifier.proofs.Judged as verifier
 use Rattle.checkfile.specs.declared.Checked.the-variants.{Accepted, Rejected}
-use Rattle.checkfile.specs.Checking.{keyDataOf, groupOf, checkOf, verdictOf, answered, checking}
+use Rattle.package.specs.Said.{keyDataOf, groupOf}
+use Rattle.checkfile.specs.Checking.{checkOf, verdictOf, answered, checking}
 use Rattle.checkfile.specs.Judged.{verifyTests, Judged, Checks}
 use Rattle.checkfile.proofs.Said.{data-written, within-limits}
 
@@ -60,8 +61,8 @@ rejected-verdict c (verdict.Refused r) e = let z : _≡_ {A = ℕ} 0 1 = cc in a
 
 pub judged : (s : List ℕ) → Bytes s → (c : Contents) → reading (checkFileReader (levelAt FIRST)) s ≡ Fields c → Judged (levelAt FIRST) s c
 judged s b c e =
-    let k = keyDataOf (levelAt FIRST) s in
-    let g = groupOf (levelAt FIRST) s in
+    let k = keyDataOf (checkForm (levelAt FIRST)) s in
+    let g = groupOf (checkForm (levelAt FIRST)) s in
     let h = checkOf (levelAt FIRST) s in
     let v = verdictOf (levelAt FIRST) k g h in
     let done = never-refused k g h (within-limits s b (read-accepts (checkFileReader (levelAt FIRST)) s e .0)) in

@@ -10,7 +10,7 @@ use lib.ListN.{length, take, drop, set, length-append}
 use lib.Seq.{getD-append-seam, drop-append-add, take-at, length-take-le, drop-drop}
 use Rattle.lists.specs.Words.{put}
 use Rattle.lists.proofs.Words.{put-pasted}
-use Rattle.copying.proofs.Filled.{paste-more}
+use Rattle.copying.proofs.Filled.{paste-more, Stands, stands-next, first-stands}
 use Rattle.checkfile.specs.declared.Checked.{Checked}
 use Rattle.checkfile.specs.Line.{lineOf, printed}
 
@@ -22,37 +22,20 @@ text-last d text at last e f h =
     let first = e ∙ ap (λ t. take at d ++ t ++ drop (at + length text) d) (sym (take-at text (last ∷ []) (length text) refl)) in
     paste-more d at whole (length text) first f (sym (getD-append-seam text last [] 0)) h (omega arith) ∙ put-pasted at (length text + 1) whole d size
 
--- one text after another
-pub put-more : (s a b : List ℕ) → length a + length b ≤ length s → put (length a) b (put 0 a s) ≡ put 0 (a ++ b) s
-put-more s a b h =
-    let far : 0 + length a + length b ≡ 0 + length (a ++ b) = omega (arith, length-append a b) in
-    ap₂ (λ (u v : List ℕ). u ++ b ++ v) (take-at a (drop (0 + length a) s) (length a) refl) (drop-append-add a (drop (0 + length a) s) (length b) ∙ drop-drop (length b) (0 + length a) s ∙ ap (λ k. drop k s) far)
-
--- what stands at the start of s, and the place after it
-pub record Stands (s a t : List ℕ) (i : ℕ) : Type 0 where
-  pub is : t ≡ put 0 a s
-  pub end : i ≡ length a
-
 -- a text, and one byte after it
-pub stands-more : {s a t u : List ℕ} {i j : ℕ} (b : List ℕ) (last : ℕ) → Stands s a t i → i + (length b + 1) ≤ length s → u ≡ put i (b ++ (last ∷ [])) t → j ≡ i + (length b + 1) → Stands s (a ++ (b ++ (last ∷ []))) u j
-stands-more {s} {a} b last w h e f =
-    let size = length-append b (last ∷ []) in
-    let end = w .end in
-    record {
-      is = e ∙ ap₂ (λ (k : ℕ) (r : List ℕ). put k (b ++ (last ∷ [])) r) end (w .is) ∙ put-more s a (b ++ (last ∷ [])) (omega arith);
-      end = omega (arith, length-append a (b ++ (last ∷ [])));
-    }
+pub stands-more : {s a t u : List ℕ} {i j : ℕ} (b : List ℕ) (last : ℕ) → Stands s 0 a t i → i + (length b + 1) ≤ length s → u ≡ put i (b ++ (last ∷ [])) t → j ≡ i + (length b + 1) → Stands s 0 (a ++ (b ++ (last ∷ []))) u j
+stands-more b last w h e f = let size = length-append b (last ∷ []) in stands-next (b ++ (last ∷ [])) w (omega arith) e (omega arith)
 
 -- six texts, each after the others, and each before the others
 pub six : (a b c d e f : List ℕ) → a ++ b ++ c ++ d ++ e ++ f ≡ a ++ (b ++ (c ++ (d ++ (e ++ (f ++ [])))))
 six a b c d e f = simp (append-assoc, append-nil)
 
 -- a line at the start of s, where s has room
-pub line-printed : (checked : Checked) {s u : List ℕ} {r : ℕ} → Stands s (lineOf checked) u r → 96 ≤ length s → (r, u) ≡ printed checked s
+pub line-printed : (checked : Checked) {s u : List ℕ} {r : ℕ} → Stands s 0 (lineOf checked) u r → 96 ≤ length s → (r, u) ≡ printed checked s
 line-printed checked {s} {u} w h =
     let line = lineOf checked in
-    let far : 0 + length line ≡ length line = omega arith in
-    ap₂ (λ (k : ℕ) (t : List ℕ). (k, t)) (w .end) (w .is ∙ ap (λ k. line ++ drop k s) far) ∙ sym (ap (λ b. cond b (0, s) (length line, line ++ drop (length line) s)) (le-ltb (length s) 96 h))
+    let is = first-stands w in
+    ap₂ (λ (k : ℕ) (t : List ℕ). (k, t)) (is .1) (is .0) ∙ sym (ap (λ b. cond b (0, s) (length line, line ++ drop (length line) s)) (le-ltb (length s) 96 h))
 
 pub line-short : (checked : Checked) (s : List ℕ) → length s < 96 → (0, s) ≡ printed checked s
 line-short checked s h = let line = lineOf checked in sym (ap (λ b. cond b (0, s) (length line, line ++ drop (length line) s)) (lt-ltb (length s) 96 h))

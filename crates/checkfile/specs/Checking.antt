@@ -1,17 +1,15 @@
 -- What checking a file answers: the reader's answer and, where it accepts, the verifier's.
-use mathlib.Core.List.{List, [], _∷_}
+use mathlib.Core.List.{List}
 use Prim.Native.Nat.{ℕ}
-use lib.ListN.{replicate}
-use Rattle.copying.specs.Words.{words, fromBytes}
+use Rattle.copying.specs.Words.{words}
 use Rattle.refusal.specs.declared.Verdict.{Verdict}
 use Rattle.refusal.specs.declared.Verdict.the-variants as verdict
 use Rattle.field.specs.declared.Level.{Level}
-use Rattle.key.specs.Key.{keySlices}
-use Rattle.layout.specs.Tests.{keyOf}
 use Rattle.package.specs.declared.Read.{Read}
 use Rattle.package.specs.declared.Read.the-variants as read
 use Rattle.package.specs.Reading.{checkFileReader, reading}
 use Rattle.package.specs.Written.{KeyData, Group, Check, checkForm, Accepted, handed}
+use Rattle.package.specs.Said.{keyDataOf, groupOf}
 use Rattle.verifier.specs.Entry.{verifyOutcome}
 use Rattle.checkfile.specs.declared.Checked.{Checked}
 use Rattle.checkfile.specs.declared.Checked.the-variants as checked
@@ -29,11 +27,6 @@ answered (read.Fields c) verdict.Accepted = checked.Accepted c
 answered (read.Fields c) verdict.Rejected = checked.Rejected c
 answered (read.Fields c) (verdict.Refused r) = checked.Refused r
 
--- y, of m elements, from those of field 04: "absent means all zero"
-abbrev pub targetOf : ℕ → List ℕ → List ℕ
-targetOf m [] = replicate m 0
-targetOf m (a ∷ s) = a ∷ s
-
 module _ (l : Level) where
   -- the reader refuses nothing
   abbrev pub Accepts : List ℕ → Type 0
@@ -43,13 +36,7 @@ module _ (l : Level) where
   abbrev pub content : List ℕ → ℕ → List ℕ
   content s tag = handed (checkForm l) s tag
 
-  -- what the fields of a file say: t is bytes, the lists of elements are "numbers of two bytes"
-  abbrev pub keyDataOf : List ℕ → KeyData
-  keyDataOf s = record { sizes = keyOf s; slices = keySlices (words (content s 0x02)) (words (content s 0x03)) (targetOf (keyOf s .m) (words (content s 0x04))) }
-
-  abbrev pub groupOf : List ℕ → Group
-  groupOf s = record { serial = fromBytes (content s 0x05); t = content s 0x06; a = words (content s 0x07) }
-
+  -- what the fields say that a package does not have
   abbrev pub checkOf : List ℕ → Check
   checkOf s = record {
     q = words (content s 0x11);
@@ -63,4 +50,4 @@ module _ (l : Level) where
   verdictOf k g c = verifyOutcome l (k .sizes) (k .slices) (g .t) (c .q) (c .delta) (c .masks) (c .alpha) (g .a)
 
   abbrev pub checking : List ℕ → Checked
-  checking s = answered (reading (checkFileReader l) s) (verdictOf (keyDataOf s) (groupOf s) (checkOf s))
+  checking s = answered (reading (checkFileReader l) s) (verdictOf (keyDataOf (checkForm l) s) (groupOf (checkForm l) s) (checkOf s))

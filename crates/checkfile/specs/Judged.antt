@@ -12,9 +12,10 @@ use Rattle.checkzero.specs.Slices.{AcceptsSlices}
 use Rattle.package.specs.declared.Contents.{Contents}
 use Rattle.package.specs.declared.Read.the-variants.{Fields}
 use Rattle.package.specs.Written.{KeyData, Group, Check, checkForm, written}
+use Rattle.package.specs.Said.{keyDataOf, groupOf}
 use Rattle.verifier.specs.Entry.{verifyRows}
 use Rattle.checkfile.specs.declared.Checked.the-variants.{Accepted, Rejected}
-use Rattle.checkfile.specs.Checking.{keyDataOf, groupOf, checkOf, verdictOf, answered, checking}
+use Rattle.checkfile.specs.Checking.{checkOf, verdictOf, answered, checking}
 
 module _ (l : Level) where
   -- verify's refusals for what a file says
@@ -27,9 +28,9 @@ module _ (l : Level) where
 
   -- a file that the reader accepts: no refusal of verify applies, and the answer tells whether the equation holds
   pub record Judged (s : List ℕ) (c : Contents) : Type 0 where
-    pub never-refused : firstOf (verifyTests (keyDataOf l s) (groupOf l s) (checkOf l s)) ≡ Done
-    pub accepted : (checking l s ≡ Accepted c) ↔ Holds (keyDataOf l s) (groupOf l s) (checkOf l s)
-    pub rejected : (checking l s ≡ Rejected c) ↔ (Holds (keyDataOf l s) (groupOf l s) (checkOf l s) → ⊥)
+    pub never-refused : firstOf (verifyTests (keyDataOf (checkForm l) s) (groupOf (checkForm l) s) (checkOf l s)) ≡ Done
+    pub accepted : (checking l s ≡ Accepted c) ↔ Holds (keyDataOf (checkForm l) s) (groupOf (checkForm l) s) (checkOf l s)
+    pub rejected : (checking l s ≡ Rejected c) ↔ (Holds (keyDataOf (checkForm l) s) (groupOf (checkForm l) s) (checkOf l s) → ⊥)
 
   -- a check file written of data within the limits is answered by verify's answer for these data, with their n, m and serial
   abbrev pub Checks : KeyData → Group → Check → Type 0

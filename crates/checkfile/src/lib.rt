@@ -8,8 +8,10 @@ ghost use Rattle.copying.specs.Words.{words};
 ghost use Rattle.field.specs.Level.{FIRST, levelAt};
 ghost use Rattle.key.specs.Key.{keySlices};
 ghost use Rattle.layout.specs.Tests.{keyOf};
+ghost use Rattle.package.specs.Written.{checkForm};
+ghost use Rattle.package.specs.Said.{keyDataOf, groupOf};
 ghost use Rattle.verifier.specs.Entry.{verifyOutcome};
-ghost use Rattle.checkfile.specs.Checking.{checkNumber, content, Accepts, keyDataOf, groupOf, checkOf, verdictOf, checking};
+ghost use Rattle.checkfile.specs.Checking.{checkNumber, content, Accepts, checkOf, verdictOf, checking};
 ghost use Rattle.checkfile.specs.Line.{decimal, saidOf, printed};
 use key::Key;
 use layout::Row;
@@ -95,7 +97,7 @@ fn judge_with(bytes: &[u8], key: Key, h: &[u16], x: &[u16], y: &[u16], a: &[u16]
 // The verdict on an accepted check file with this key. Where field 04 is absent the room for y stays zero.
 fn judge(bytes: &[u8], key: Key) -> Verdict
     requires { ⌜ Accepts (levelAt FIRST) (now bytes) × (key ≡ keyOf (now bytes)) ⌝ }
-    ensures { λ r. ⌜ r ≡ verdictOf (levelAt FIRST) (keyDataOf (levelAt FIRST) (now (bytes .entry))) (groupOf (levelAt FIRST) (now (bytes .entry))) (checkOf (levelAt FIRST) (now (bytes .entry))) ⌝ }
+    ensures { λ r. ⌜ r ≡ verdictOf (levelAt FIRST) (keyDataOf (checkForm (levelAt FIRST)) (now (bytes .entry))) (groupOf (checkForm (levelAt FIRST)) (now (bytes .entry))) (checkOf (levelAt FIRST) (now (bytes .entry))) ⌝ }
 {
     let mut h = [0u16; MATRIX];
     let h_len = load(bytes, Row::H, &mut h);

@@ -67,7 +67,8 @@ pub fn put_bytes(bytes: &[u8], at: usize, out: &mut [u8]) -> usize
     at + i
 }
 
-// Each word as two bytes, highest byte first, from place at on; answers the place after them.
+// Each word as two bytes, highest byte first, from place at on; answers the place after them. Both are taken from the word with its bytes
+// exchanged, so that the compiler makes one store of them.
 pub fn put_words(words: &[u16], at: usize, out: &mut [u8]) -> usize
     requires { ⌜ at + 2 * length (now words) ≤ length (now out) ⌝ }
     ensures { λ r. ⌜ (now (out .exit) ≡ put at (wordBytes (now (words .entry))) (now (out .entry))) × (r ≡ at + 2 * length (now (words .entry))) ⌝ }
@@ -76,8 +77,9 @@ pub fn put_words(words: &[u16], at: usize, out: &mut [u8]) -> usize
     let mut k = at;
     while i < words.len() {
         let x = words[i];
-        out[k] = (x / 256) as u8;
-        out[k + 1] = (x % 256) as u8;
+        let exchanged = x % 256 * 256 + x / 256;
+        out[k] = (exchanged % 256) as u8;
+        out[k + 1] = (exchanged / 256) as u8;
         i += 1;
         k += 2;
     }

@@ -8,3 +8,5 @@ pub mod Opening
 pub mod Faithful
 pub mod Forms
 pub mod Examples
+pub mod Said
+pub mod Rooms

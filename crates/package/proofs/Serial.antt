@@ -18,10 +18,10 @@ use Rattle.layout.specs.Tests.{valueTests}
 use Rattle.package.specs.Written.{serialBytes}
 
 -- either form
-in-two : (x : ℕ) → x < 65536 → serialBytes x ≡ twoBytes x
+pub in-two : (x : ℕ) → x < 65536 → serialBytes x ≡ twoBytes x
 in-two x h = ap (λ b. cond b (twoBytes x) (fourBytes x)) (lt-ltb x 65536 h)
 
-in-four : (x : ℕ) → 65536 ≤ x → serialBytes x ≡ fourBytes x
+pub in-four : (x : ℕ) → 65536 ≤ x → serialBytes x ≡ fourBytes x
 in-four x h = ap (λ b. cond b (twoBytes x) (fourBytes x)) (le-ltb x 65536 h)
 
 -- what holds of the two bytes of a serial that fits them, and of the four of any other, holds of its bytes

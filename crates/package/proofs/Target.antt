@@ -48,10 +48,10 @@ replicate-zeros (suc k) [] h e = absurd (omega arith)
 replicate-zeros (suc k) (x ∷ s) h e = let b = and-eq-true-iff (eqb x 0) (zeros s) .0 e in ap₂ _∷_ (eqb-true x 0 (b .0)) (replicate-zeros k s (omega arith) (b .1))
 
 -- either form
-absent : (y : List ℕ) → zeros y ≡ true → targetFields y ≡ []
+pub absent : (y : List ℕ) → zeros y ≡ true → targetFields y ≡ []
 absent y e = rw e refl
 
-present : (y : List ℕ) → zeros y ≡ false → targetFields y ≡ (0x04, wordBytes y) ∷ []
+pub present : (y : List ℕ) → zeros y ≡ false → targetFields y ≡ (0x04, wordBytes y) ∷ []
 present y e = rw e refl
 
 -- what holds of no field where all elements are zero, and of the field where not, holds of what is written

@@ -8,12 +8,14 @@ use native.Mathlib.Omega.{arith}
 use Rattle.refusal.specs.Answer.{numberOf, refusal, firstOf}
 use Rattle.refusal.specs.Verdict.{verdictNumber, turned, judged}
 use Rattle.refusal.specs.declared.Answer.{Answer}
+use Rattle.refusal.specs.declared.Refusal.{Refusal}
 use Rattle.refusal.specs.declared.Answer.the-variants.{Done, Refused}
 use Rattle.refusal.specs.declared.Verdict.{Verdict}
 use Rattle.refusal.specs.declared.Verdict.the-variants.{Accepted, Rejected, Refused as Turned}
 use Rattle.field.specs.declared.Level.{Level}
 use Rattle.key.specs.declared.Key.{Key}
 use Rattle.key.specs.Key.{KeySlices, Leans}
+use Rattle.perk.specs.Answered.{answered}
 
 -- one equivalence after another
 pub both : {A B C : Type 0} → A ↔ B → B ↔ C → A ↔ C
@@ -28,6 +30,18 @@ pub zero-done : (rows : List (Bool × ℕ)) → Refusals rows → numberOf (firs
 zero-done [] f e = refl
 zero-done ((false, k) ∷ rows) f e = zero-done rows (f .2) e
 zero-done ((true, k) ∷ rows) f e = absurd (omega (arith, f .0, e))
+
+-- the same of an answer that comes with a number of its own where it is no refusal
+pub zero-told : {A : Type 0} (number : A → ℕ) (told : Answer → A) (rows : List (Bool × ℕ)) → Refusals rows → ((q : Refusal) → number (told (Refused q)) ≡ q .number) → {a : A} → a ≡ told (firstOf rows) → number a ≡ 0 → firstOf rows ≡ Done
+zero-told number told rows f same e z = zero-done rows f (go (firstOf rows) refl)
+  where
+    go : (x : Answer) → firstOf rows ≡ x → numberOf (firstOf rows) ≡ 0
+    go Done d = ap numberOf d
+    go (Refused q) d = ap numberOf d ∙ sym (same q) ∙ sym (ap (λ x. number (told x)) d) ∙ sym (ap number e) ∙ z
+
+-- what is put of such an answer is the outcome's
+pub put : {A : Type 0} (or : A → ℕ → ℕ × ℕ) (a : A) (old : ℕ) {s : List ℕ} {o : A × List ℕ} {r k : ℕ} → (r, k) ≡ or a old → (a, s) ≡ o → (r, (s, k)) ≡ answered or o old
+put {A} or a old {s = s} e f = ap (λ (p : ℕ × ℕ). (p .0, (s, p .1))) e ∙ ap (λ (o : A × List ℕ). answered or o old) f
 
 -- the number k of the answer r is 0 exactly when r is Done, and j above 0 exactly when r is refusal j
 module _ {r : Answer} {k : ℕ} (e : k ≡ numberOf r) where

@@ -15,10 +15,13 @@ ghost use Rattle.package.specs.Reading.{packageReader, checkFileReader, reading
 ghost use Rattle.checkfile.specs.Checking.{checkNumber, checking};
 ghost use Rattle.rank.specs.Entry.{rankOutcome, Tells};
 ghost use Rattle.perk.specs.Files.{SmallSizes, readPut, spanOf};
-ghost use Rattle.perk.specs.Rank.{rankOr, rankPut};
+ghost use Rattle.writer.specs.Entry.{writeOutcome, writeLeans};
+ghost use Rattle.writer.specs.Laws.{ReadBack};
+ghost use Rattle.perk.specs.Answered.{rankOr, lengthOr, answered};
 use key::Key;
 use package::Read;
 use rank::Ranked;
+use writer::Written;
 
 // The sum of two elements of K.
 #[no_mangle]
@@ -148,7 +151,7 @@ pub extern "C" fn perk_rank(
     matrix: &mut [u16],
     rank: &mut usize,
 ) -> u32
-    ensures outcome { λ r. ⌜ (r, (now (matrix .exit), now (rank .exit))) ≡ rankPut (rankOutcome (levelAt FIRST) (record { n = n; m = m }) (now (h .entry)) (now (matrix .entry))) (now (rank .entry)) ⌝ }
+    ensures outcome { λ r. ⌜ (r, (now (matrix .exit), now (rank .exit))) ≡ answered rankOr (rankOutcome (levelAt FIRST) (record { n = n; m = m }) (now (h .entry)) (now (matrix .entry))) (now (rank .entry)) ⌝ }
     ensures tells { λ r. ⌜ (r ≡ 0 → Tells (levelAt FIRST) (record { n = n; m = m }) (now (h .entry)) (now (rank .exit))) ⌝ }
 {
     let key = Key { n, m };
@@ -190,6 +193,44 @@ pub extern "C" fn perk_read_check_file(
     ensures { λ r. ⌜ (r, (now (n .exit), now (m .exit), now (serial .exit))) ≡ readPut (reading (checkFileReader (levelAt FIRST)) (now (bytes .entry))) (now (n .entry), now (m .entry), now (serial .entry)) ⌝ }
 {
     put_read(package::read_check_file(bytes), n, m, serial)
+}
+
+// The number of an answer; the length is written where it is no refusal.
+fn put_length(answer: Written, length: &mut usize) -> u32
+    ensures { λ r. ⌜ (r, now (length .exit)) ≡ lengthOr answer (now (length .entry)) ⌝ }
+{
+    match answer {
+        Written::Length(len) => {
+            *length = len;
+            0
+        }
+        Written::Refused(refusal) => refusal.number,
+    }
+}
+
+// A package, and its length.
+#[no_mangle]
+pub extern "C" fn perk_write_package(
+    n: usize,
+    m: usize,
+    h: &[u16],
+    x: &[u16],
+    y: &[u16],
+    serial: u32,
+    t: &[u8],
+    a: &[u16],
+    out: &mut [u8],
+    length: &mut usize,
+) -> u32
+    ensures outcome { λ r. ⌜ (r, (now (out .exit), now (length .exit))) ≡ answered lengthOr (writeOutcome (levelAt FIRST) (record { n = n; m = m }) (keySlices (now (h .entry)) (now (x .entry)) (now (y .entry))) serial (now (t .entry)) (now (a .entry)) (now (out .entry))) (now (length .entry)) ⌝ }
+    ensures leans { λ r. ⌜ writeLeans (levelAt FIRST) (record { n = n; m = m }) (keySlices (now (h .entry)) (now (x .entry)) (now (y .entry))) (now (t .entry)) (now (a .entry)) (r ≡ 15) ⌝ }
+    ensures reads { λ r. ⌜ (r ≡ 0 → ReadBack (levelAt FIRST) (record { n = n; m = m }) (keySlices (now (h .entry)) (now (x .entry)) (now (y .entry))) serial (now (t .entry)) (now (a .entry)) (now (length .exit)) (now (out .exit))) ⌝ }
+{
+    let key = Key { n, m };
+    put_length(
+        writer::write_package(key, h, x, y, serial, t, a, out),
+        length,
+    )
 }
 
 // The length of a field's content in a package, and where it starts.

@@ -33,6 +33,8 @@ impl Refusal {
     pub const FIELD_LENGTH: Refusal = Refusal { number: 11 };
     // bytes follow the last field
     pub const BYTES_FOLLOW: Refusal = Refusal { number: 12 };
+    // the output is shorter than what is to be written
+    pub const SHORT_OUTPUT: Refusal = Refusal { number: 13 };
     // field 04 is present and all its elements are zero
     pub const ZERO_TARGET: Refusal = Refusal { number: 14 };
     // some coefficients from F, not all zero, combine the rows of H to zero

@@ -2,8 +2,9 @@
 //! on some that are refused.
 
 use crate::implementation::{
-    material, written_words, Found, Implementation, ALL, FILED, KEYED, RANK,
+    material, written_words, Found, Implementation, ALL, FILED, KEYED, RANK, WRITE,
 };
+use reference::package::package_bytes;
 use reference::samples::{Generator, Leaning, Material, Sample};
 use reference::Refusal;
 
@@ -173,6 +174,60 @@ fn keys(generator: &mut Generator) -> Result<(), String> {
     Ok(())
 }
 
+/// A fault of what a package is written from, or none.
+fn package_fault(material: &mut Material, generator: &mut Generator) {
+    let name = ["h", "x", "y", "t", "a"][generator.below(5)];
+    let length = material.lent(name).length();
+    let place = generator.below(length);
+    let Sample { n, m, h, .. } = &mut material.sample;
+    match generator.below(12) {
+        0 => *n = [0, 1, 65, usize::MAX][generator.below(4)],
+        1 => *m = [0, *n, usize::MAX][generator.below(3)],
+        2 => Leaning::ZeroRow.make(h, *n, generator),
+        3 => material.lent(name).set_length(place),
+        4 => material.lent(name).set_length(length + 1),
+        // The low byte is too large for a bit.
+        5 | 6 => material.lent(name).change(place, |_| 2050),
+        _ => {}
+    }
+}
+
+/// Tries the entry write package, on material of all sizes with some faults, and
+/// on outputs as long as the package, longer and shorter ones.
+fn packages(generator: &mut Generator) -> Result<(), String> {
+    let (mut done, mut short) = (0, 0);
+    for n in 2..=64 {
+        for round in 0..16 {
+            let m = 1 + generator.below(n - 1);
+            let mut material = Material::of_package(n, m, round % 2 == 0, generator);
+            let Material { sample, t, a } = &material;
+            let length = package_bytes(sample.key(), sample.serial, t, a).len();
+            let room = match generator.below(5) {
+                0 => length - 1,
+                1 => generator.below(length),
+                2 => length + 1 + generator.below(100),
+                _ => length,
+            };
+            package_fault(&mut material, generator);
+            let out: Vec<u8> = (0..room).map(|_| generator.number() as u8).collect();
+            let outcomes = ALL.iter().filter_map(|one| one.write).map(|entry| {
+                let (mut out, mut length) = (out.clone(), 99_999);
+                let answer = entry(&material, &mut out, &mut length);
+                done += usize::from(answer == 0);
+                short += usize::from(answer == Refusal::ShortOutput.number());
+                (answer, length, out)
+            });
+            if !same(outcomes) {
+                return Err(format!("{WRITE} at n = {n}, m = {m}"));
+            }
+        }
+    }
+    if done < 100 || short < 100 {
+        return Err(format!("{WRITE} is tried too little: {done}, {short}"));
+    }
+    Ok(())
+}
+
 /// Tries the entries on bytes, on a check file and its package.
 fn files(file: &[u8], package: &[u8], generator: &mut Generator) -> Result<(), String> {
     for case in 0..64 {
@@ -209,5 +264,6 @@ pub fn agree(file: &[u8], package: &[u8]) -> Result<(), String> {
     keys(generator)?;
     ranks(generator)?;
     leaning_keys(generator)?;
+    packages(generator)?;
     files(file, package, generator)
 }

@@ -1,12 +1,14 @@
 //! The rows: which entries are called with what.
 
 use crate::implementation::{
-    material, written_words, Found, OnBytes, OnElements, OnKey, OnMatrix, ALL, FILED, KEYED, RANK,
+    material, written_words, Found, OnBytes, OnElements, OnKey, OnMatrix, OnPackage, ALL, FILED,
+    KEYED, RANK, WRITE,
 };
 use crate::measure::{Calls, Row, Subject};
 use crate::products;
-use reference::package::package_of;
+use reference::package::{package_bytes, package_of};
 use reference::samples::{Generator, Material, Sample};
+use reference::Refusal;
 use std::hint::black_box;
 
 /// The sizes n and m. The first four grow with n.
@@ -17,6 +19,9 @@ const PAIRS: usize = 64;
 
 /// The entry and form of the row that gives the time of one product.
 pub const ONE_PRODUCT: (&str, &str) = ("product", "independent");
+
+/// The sizes n and m of the packages that are written, the longest one last.
+const WRITTEN: [(usize, usize); 2] = [(64, 27), (64, 63)];
 
 /// What all rows are called with.
 pub struct Inputs {
@@ -34,13 +39,26 @@ impl Inputs {
         let mut generator = Generator::new(3);
         let materials = SIZES
             .iter()
-            .map(|&(n, m)| material(Sample::with_target(n, m, &mut generator)))
+            .map(|&(n, m)| {
+                material(Sample {
+                    serial: u32::MAX,
+                    ..Sample::with_target(n, m, &mut generator)
+                })
+            })
             .collect();
         Inputs {
             materials,
             package: package_of(&file).to_vec(),
             file,
         }
+    }
+
+    /// The material of the packages that are written. Their keys have a target,
+    /// and their serials four bytes.
+    fn written(&self) -> impl Iterator<Item = &Material> {
+        let sizes = |Material { sample, .. }: &Material| (sample.n, sample.m);
+        let all = self.materials.iter();
+        all.filter(move |material| WRITTEN.contains(&sizes(material)))
     }
 }
 
@@ -121,6 +139,53 @@ fn with_matrix(entry: OnMatrix, material: &Material) -> Calls<'_> {
     })
 }
 
+/// The package of some material.
+fn package(Material { sample, t, a }: &Material) -> Vec<u8> {
+    package_bytes(sample.key(), sample.serial, t, a)
+}
+
+/// Calls that write a package.
+fn writing(entry: OnPackage, material: &Material) -> Calls<'_> {
+    let length = package(material).len();
+    with_room(entry, material, length, (0, length))
+}
+
+/// Calls that make all checks of a package and write nothing: the output is one
+/// byte short.
+fn checking(entry: OnPackage, material: &Material) -> Calls<'_> {
+    let room = package(material).len() - 1;
+    with_room(entry, material, room, (Refusal::ShortOutput.number(), 0))
+}
+
+/// Calls that write a package into an output of this length, with what they
+/// answer and the length that they write.
+fn with_room(
+    entry: OnPackage,
+    material: &Material,
+    room: usize,
+    expected: (u32, usize),
+) -> Calls<'_> {
+    let mut out = vec![0; room];
+    Box::new(move |count| {
+        for _ in 0..count {
+            let mut length = 0;
+            let answer = entry(black_box(material), black_box(&mut out[..]), &mut length);
+            assert_eq!((answer, length), expected);
+        }
+    })
+}
+
+/// Copies of a package.
+fn copying(material: &Material) -> Calls<'static> {
+    let package = package(material);
+    let mut out = vec![0; package.len()];
+    Box::new(move |count| {
+        for _ in 0..count {
+            black_box(&mut out[..]).copy_from_slice(black_box(&package));
+        }
+    })
+}
+
 /// Calls with bytes.
 fn with_bytes(entry: OnBytes, bytes: &[u8]) -> Calls<'_> {
     let mut found = Found::default();
@@ -152,6 +217,39 @@ fn on_elements(rows: &mut Vec<Row>) {
     push("product", "chain", Some(1), chains.collect());
     let products = all.map(|one| Some(independent(one.product)));
     push(ONE_PRODUCT.0, ONE_PRODUCT.1, Some(1), products.collect());
+}
+
+/// What is timed of the writing of a package by one implementation.
+pub struct Writing<'a> {
+    /// The sizes n and m.
+    pub sizes: (usize, usize),
+    /// The name of the implementation.
+    pub name: &'static str,
+    /// The bytes of the package.
+    pub bytes: usize,
+    /// Its calls that write, its calls that make the checks alone, and copies.
+    pub calls: [Calls<'a>; 3],
+}
+
+/// The writing of packages by the implementations whose instructions are counted.
+pub fn writings(inputs: &Inputs) -> Vec<Writing<'_>> {
+    let mut list = Vec::new();
+    for material in inputs.written() {
+        for one in ALL.iter().filter(|one| one.counted) {
+            let Some(write) = one.write else { continue };
+            list.push(Writing {
+                sizes: (material.sample.n, material.sample.m),
+                name: one.name,
+                bytes: package(material).len(),
+                calls: [
+                    writing(write, material),
+                    checking(write, material),
+                    copying(material),
+                ],
+            });
+        }
+    }
+    list
 }
 
 /// The rows, always in the same order.
@@ -191,6 +289,22 @@ pub fn rows(inputs: &Inputs) -> Vec<Row<'_>> {
         rows.push(Row {
             subject: Subject {
                 entry: RANK,
+                sizes: Some((n, m)),
+                form: "",
+                products: None,
+                process: false,
+            },
+            calls: calls.collect(),
+        });
+    }
+    for material in inputs.written() {
+        let Sample { n, m, .. } = material.sample;
+        let calls = ALL
+            .iter()
+            .map(|one| one.write.map(|write| writing(write, material)));
+        rows.push(Row {
+            subject: Subject {
+                entry: WRITE,
                 sizes: Some((n, m)),
                 form: "",
                 products: None,

@@ -14,6 +14,10 @@ pub type OnKey = fn(&Material, &mut [u8], &mut [u16]) -> u32;
 /// The entry rank: n, m and H, the matrix and the rank that it writes.
 pub type OnMatrix = fn(usize, usize, &[u16], &mut [u16], &mut usize) -> u32;
 
+/// The entry write package: the room for the package, and its length, which it
+/// writes too.
+pub type OnPackage = fn(&Material, &mut [u8], &mut usize) -> u32;
+
 /// What the entries on bytes write.
 #[derive(Clone, Debug, Default, PartialEq)]
 pub struct Found {
@@ -36,6 +40,9 @@ pub const KEYED: [&str; 4] = ["constraints", "values", "prove", "verify"];
 /// The name of the entry rank.
 pub const RANK: &str = "rank";
 
+/// The name of the entry write package.
+pub const WRITE: &str = "write_package";
+
 /// The place of prove among them.
 const PROVE: usize = 2;
 
@@ -53,6 +60,8 @@ pub struct Implementation {
     /// The entry rank. Another build may be from before it; then its other
     /// entries do not refuse rows that lean on each other.
     pub rank: Option<OnMatrix>,
+    /// The entry write package, where it has it.
+    pub write: Option<OnPackage>,
     /// The entries with a key.
     pub keyed: [OnKey; 4],
     /// The entries on bytes, where it has them.
@@ -108,16 +117,27 @@ macro_rules! filed {
     }};
 }
 
-/// The implementation of a module, with its name, its entry rank, its entries on
-/// bytes, and whether its instructions are counted.
+/// The entry write package of a module.
+macro_rules! writer {
+    ($module:path) => {{
+        use $module as module;
+        Some(|Material { sample: k, t, a }, out, length| {
+            module::write_package(k.key(), k.serial, t, a, out, length)
+        })
+    }};
+}
+
+/// The implementation of a module, with its name, its entries rank and write
+/// package, its entries on bytes, and whether its instructions are counted.
 macro_rules! implementation {
-    ($module:path, $name:literal, $rank:expr, $filed:expr, $counted:literal) => {{
+    ($module:path, $name:literal, $rank:expr, $write:expr, $filed:expr, $counted:literal) => {{
         use $module as module;
         Implementation {
             name: $name,
             sum: module::sum,
             product: module::product,
             rank: $rank,
+            write: $write,
             keyed: keyed!($module),
             filed: $filed,
             counted: $counted,
@@ -132,20 +152,29 @@ const OTHER_RANK: Option<OnMatrix> = Some(library::other::rank);
 #[cfg(all(feature = "other", not(other_rank)))]
 const OTHER_RANK: Option<OnMatrix> = None;
 
+/// The entry write package of another build that has it.
+#[cfg(all(feature = "other", other_write_package))]
+const OTHER_WRITE: Option<OnPackage> = writer!(library::other);
+/// The entry write package of another build from before it.
+#[cfg(all(feature = "other", not(other_write_package)))]
+const OTHER_WRITE: Option<OnPackage> = None;
+
 /// The implementations, in the order of the columns.
 pub const ALL: &[Implementation] = &[
     implementation!(
         library,
         "library",
         Some(library::rank),
+        writer!(library),
         filed!(library),
         true
     ),
-    implementation!(packed, "Rust", Some(packed::rank), None, true),
+    implementation!(packed, "Rust", Some(packed::rank), None, None, true),
     implementation!(
         of_reference,
         "reference",
         Some(of_reference::rank),
+        writer!(of_reference),
         filed!(of_reference),
         false
     ),
@@ -154,6 +183,7 @@ pub const ALL: &[Implementation] = &[
         library::other,
         "other",
         OTHER_RANK,
+        OTHER_WRITE,
         filed!(library::other),
         true
     ),

@@ -56,6 +56,7 @@ fn time(
         println!("The program perkcheck is missing: `rt check perkcheck` makes it.\n");
     }
     table::shares(&measured);
+    table::writing(cases::writings(inputs));
     table::growth(&measured);
     picture.map_or(Ok(()), |path| {
         fs::write(path, svg::picture(&measured)).map_err(|error| format!("{path}: {error}"))

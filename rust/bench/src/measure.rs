@@ -73,7 +73,7 @@ impl Measured {
 }
 
 /// The median; none of no numbers.
-fn median(mut numbers: Vec<f64>) -> Option<f64> {
+pub fn median(mut numbers: Vec<f64>) -> Option<f64> {
     numbers.sort_by(f64::total_cmp);
     let middle = numbers.len() / 2;
     let upper = *numbers.get(middle)?;
@@ -125,6 +125,28 @@ impl<'a> Turns<'a> {
             self.times.push(nanoseconds / self.count as f64);
         }
     }
+}
+
+/// The times of one call of three kinds of calls in nanoseconds, in each of the
+/// turns that all of them took part in. In a turn they are called one after
+/// another, in the opposite order in every second turn, each after a call that is
+/// not timed, so that it matters little which kind was called before.
+pub fn triples(calls: [Calls; 3]) -> Vec<[f64; 3]> {
+    let mut all = calls.map(Turns::new);
+    let take = |turns: &mut Turns| {
+        (turns.calls)(1);
+        turns.take();
+    };
+    for turn in 0..TURNS {
+        if turn % 2 == 0 {
+            all.iter_mut().for_each(take);
+        } else {
+            all.iter_mut().rev().for_each(take);
+        }
+    }
+    let [a, b, c] = all.map(|turns| turns.times);
+    let triples = a.into_iter().zip(b).zip(c);
+    triples.map(|((a, b), c)| [a, b, c]).collect()
 }
 
 /// Times the rows, in the order of their lists of instructions. In a turn the

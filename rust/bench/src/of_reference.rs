@@ -44,6 +44,18 @@ pub fn rank(n: usize, m: usize, h: &[u16], matrix: &mut [u16], rank: &mut usize)
     number(reference::rank(n, m, h, matrix).map(|answered| *rank = answered))
 }
 
+/// The entry write package.
+pub fn write_package(
+    key: Key<'_>,
+    serial: u32,
+    t: &[u8],
+    a: &[u16],
+    out: &mut [u8],
+    length: &mut usize,
+) -> u32 {
+    number(reference::write_package(key, serial, t, a, out).map(|answered| *length = answered))
+}
+
 /// Writes what a reader answers.
 fn written(answer: Result<Contents, Refusal>, n: &mut u32, m: &mut u32, serial: &mut u32) -> u32 {
     number(answer.map(|contents| {

@@ -11,16 +11,19 @@ use std::fmt::Write;
 /// The size of the entries that are shown as dots.
 const SIZES: (usize, usize) = (64, 27);
 
-/// Width and height of the picture.
+/// The width of the picture, and its height: a band for the product and one for
+/// each entry with a key, and what stands above and below them.
 const WIDTH: f64 = 960.0;
-const HEIGHT: f64 = 500.0;
+const HEIGHT: f64 = 190.0 + 7.0 * BAND;
 
 /// Where the dots' scales begin and end.
 const DOTS: (f64, f64) = (115.0, 500.0);
 
-/// The height of one dot's row, and the space between two entries.
+/// The height of one dot's row, the space between two entries, and the height of
+/// an entry with that space.
 const ROW: f64 = 13.0;
 const BETWEEN: f64 = 10.0;
+const BAND: f64 = ROW * ALL.len() as f64 + BETWEEN;
 
 /// The left end of the text of the lines, and the four sides of their area.
 const GROWTH: f64 = 590.0;
@@ -146,8 +149,7 @@ fn draw_group(picture: &mut Picture, start: f64, title: &str, rows: &[&Measured]
         .collect();
     let scale = Scale::of(&numbers, DOTS);
     let top = start + 12.0;
-    let band = ROW * ALL.len() as f64 + BETWEEN;
-    let bottom = top + band * rows.len() as f64;
+    let bottom = top + BAND * rows.len() as f64;
     picture.text((20.0, start), GROUP, title);
     for number in scale.powers() {
         let x = scale.at(number);
@@ -155,8 +157,8 @@ fn draw_group(picture: &mut Picture, start: f64, title: &str, rows: &[&Measured]
         picture.text((x, bottom + 14.0), SCALE_MIDDLE, &shown(number, false));
     }
     for (index, row) in rows.iter().enumerate() {
-        let above = top + BETWEEN / 2.0 + band * index as f64;
-        let middle = above + (band - BETWEEN) / 2.0 + 4.0;
+        let above = top + BETWEEN / 2.0 + BAND * index as f64;
+        let middle = above + (BAND - BETWEEN) / 2.0 + 4.0;
         if index > 0 {
             let y = above - BETWEEN / 2.0;
             picture.line((20.0, y), (DOTS.1, y), r##"stroke="#eeeeee""##);

@@ -1,8 +1,8 @@
 //! The tables, as Markdown with columns of even width.
 
-use crate::cases::{ONE_PRODUCT, SIZES};
+use crate::cases::{Writing, ONE_PRODUCT, SIZES};
 use crate::implementation::{other_name, ALL, KEYED, LIBRARY, OTHER, RANK, REFERENCE, RUST};
-use crate::measure::{Measured, LEAST, TURNS};
+use crate::measure::{median, triples, Measured, LEAST, TURNS};
 
 /// The ratio of times up to which one build is not called slower than another:
 /// the same code at two places in memory differs by up to 0.02, and by more
@@ -206,6 +206,55 @@ pub fn shares(rows: &[Measured]) {
             ]);
         }
     }
+    print(heading.map(String::from).to_vec(), cells);
+    println!();
+}
+
+/// The copies of a package that its writing shall take no longer than, beside
+/// the checks.
+const COPIES: f64 = 3.0;
+
+/// Times the writing of a package: its cells.
+fn written(package: Writing) -> Vec<String> {
+    let turns = triples(package.calls);
+    let of_turns = |of: fn(&[f64; 3]) -> f64| median(turns.iter().map(of).collect());
+    let beyond = of_turns(|[write, checks, _]| write - checks);
+    let copies = of_turns(|[write, checks, copy]| (write - checks) / copy);
+    let ratio = of_turns(|[write, checks, copy]| write / (checks + COPIES * copy));
+    vec![
+        format!("({},{})", package.sizes.0, package.sizes.1),
+        package.name.to_string(),
+        package.bytes.to_string(),
+        microseconds(of_turns(|turn| turn[0])),
+        microseconds(of_turns(|turn| turn[1])),
+        microseconds(of_turns(|turn| turn[2])),
+        microseconds(beyond),
+        shown(beyond, |beyond| short(package.bytes as f64 / beyond)),
+        shown(copies, short),
+        three_decimals(ratio),
+    ]
+}
+
+/// Times the writing of packages, and prints the table.
+pub fn writing(packages: Vec<Writing>) {
+    println!("## Writing a package\n");
+    println!("The time of `write_package` beside those of its checks and of a copy. The checks are timed by the same call with an output one byte short: it makes");
+    println!("all of them, answers 13 and writes nothing. A copy is `memcpy` of the package. In each turn the three are called one after another, each after one");
+    println!("more call that is not timed. Of the turns' values these are medians too: the time beyond the checks, the bytes that are written in each nanosecond");
+    println!("of it, that time over a copy, and the whole time over that of the checks and {COPIES} copies; at most 1 is aimed at.\n");
+    let heading = [
+        "(n,m)",
+        "implementation",
+        "bytes",
+        "`write_package` µs",
+        "checks µs",
+        "copy µs",
+        "beyond the checks µs",
+        "bytes per ns",
+        "beyond/copy",
+        &format!("write/(checks + {COPIES} copies)"),
+    ];
+    let cells = packages.into_iter().map(written).collect();
     print(heading.map(String::from).to_vec(), cells);
     println!();
 }

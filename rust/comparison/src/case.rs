@@ -59,6 +59,9 @@ pub struct Entry {
     pub packed: Option<Call>,
     /// The rows of H of a call, where the entry takes a key or a file.
     pub rows: Option<FindRows>,
+    /// The package of a call, where the entry reads a file: each is written
+    /// again from its fields.
+    pub package: Option<FindPackage>,
     /// A table of its cases, where the answers alone don't tell them apart.
     pub table: Option<Table>,
     /// The groups of cases.
@@ -70,6 +73,10 @@ pub struct Entry {
 /// n and H of a call with this answer; none where a refusal of the sizes, the
 /// slices or the key comes before anything could be said of the rows.
 pub type FindRows = fn(&Taken, u32) -> Option<(usize, Vec<u16>)>;
+
+/// The package of a call with this answer: the file, or what a check file begins
+/// with; none where the file is refused.
+pub type FindPackage = fn(&Taken, u32) -> Option<Vec<u8>>;
 
 /// The least number of cases of a group, for each of these sizes, that reach an
 /// answer.
@@ -104,7 +111,7 @@ pub struct Table {
     /// The rows.
     pub rows: fn() -> Rows,
     /// The row and the column of a case, given what the reference answers.
-    pub cell: fn(u32, &Taken) -> Cell,
+    pub cell: fn(u32, &Case) -> Cell,
 }
 
 /// Whose answers and outputs are expected.

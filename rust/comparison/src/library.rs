@@ -109,6 +109,40 @@ macro_rules! build {
             unsafe { c::perk_rank(n, m, h, h_len, matrix, matrix_len, rank) }
         }
 
+        /// The entry write package: writes the package and its length.
+        pub fn write_package(
+            key: Key<'_>,
+            serial: u32,
+            t: &[u8],
+            a: &[u16],
+            out: &mut [u8],
+            length: &mut usize,
+        ) -> u32 {
+            let Key { n, m, h, x, y } = key;
+            // SAFETY: the slices are valid for their lengths, and neither the
+            // output nor the number overlaps another.
+            unsafe {
+                c::perk_write_package(
+                    n,
+                    m,
+                    h.as_ptr(),
+                    h.len(),
+                    x.as_ptr(),
+                    x.len(),
+                    y.as_ptr(),
+                    y.len(),
+                    serial,
+                    t.as_ptr(),
+                    t.len(),
+                    a.as_ptr(),
+                    a.len(),
+                    out.as_mut_ptr(),
+                    out.len(),
+                    length,
+                )
+            }
+        }
+
         on_keys! {
             /// The entry constraints.
             constraints = perk_constraints,

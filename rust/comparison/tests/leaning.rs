@@ -466,6 +466,8 @@ fn field_passes(library: Call) -> bool {
     let entry = Entry {
         library,
         table: None,
+        // None is accepted.
+        package: None,
         groups: || {
             vec![
                 files::whole_files::<PackageField>(),

@@ -3,7 +3,7 @@
 
 use comparison::case::Entry;
 use comparison::entries::{
-    check, constraints, field, package_field, prove, rank, readers, values, ALL,
+    check, constraints, field, package_field, prove, rank, readers, values, write, ALL,
 };
 use comparison::run::Run;
 use comparison::vectors::{compare, directory, names, Outcome, Setting};
@@ -187,42 +187,79 @@ fn every_word_altered() {
     }
 }
 
-#[test]
-fn every_word_of_ranks_altered() {
-    let name = "rank.txt";
-    // The first matrices, and all refused calls.
-    let content = text(name);
-    let refused = content.find("refused ").expect("refused calls");
-    let first = content.match_indices("case ").nth(12).expect("a case").0;
-    let content = [&content[..first], &content[refused..]].concat();
+/// Alters each word of a file of calls, in the first of its done calls, and each
+/// answer of its refused calls: each is found. Parts that are left out are, too.
+/// How many words were altered.
+fn every_word_of_calls_altered(name: &str, cases: usize) -> usize {
+    let whole = text(name);
+    let refused = whole.find("refused ").expect("refused calls");
+    let first = whole.match_indices("case ").nth(cases).expect("a case").0;
+    let content = [&whole[..first], &whole[refused..]].concat();
     assert_eq!(difference(name, &content), None);
+    let done_lines = content[..first].lines().count();
     let mut words_altered = 0;
     for (index, line) in content.lines().enumerate() {
         let words: Vec<&str> = line.split(' ').collect();
         // Names are free, and a refused call may be refused with other words.
-        let free = ["case", "refused", "h_words"].contains(&words[0]);
-        let of_refused = index > content[..first].lines().count();
+        let free = words[0] == "case" || index >= done_lines && words[0] != "answer";
         for word in (1..words.len()).filter(|_| !free) {
             let other = with_line(&content, index, &altered(line, word));
-            let found = difference(name, &other);
-            if of_refused && words[0] != "answer" {
-                continue;
-            }
-            assert!(found.is_some(), "line {}: {line}", index + 1);
+            assert!(
+                difference(name, &other).is_some(),
+                "{name}, line {}: {line}",
+                index + 1
+            );
             words_altered += 1;
         }
     }
-    assert!(words_altered > 100, "{words_altered}");
-    // Parts that are left out, and others.
-    let whole = text(name);
     for other in [
-        &whole[..whole.find("refused ").expect("refused calls")],
-        &whole[whole.find("refused ").expect("refused calls")..],
+        &whole[..refused],
+        &whole[refused..],
         &whole[..whole.rfind("answer").expect("an answer")],
         "",
         "case one\n",
     ] {
         assert!(difference(name, other).is_some());
+    }
+    words_altered
+}
+
+#[test]
+fn every_word_of_ranks_altered() {
+    let words = every_word_of_calls_altered("rank.txt", 12);
+    assert!(words > 100, "{words}");
+}
+
+#[test]
+fn every_word_of_packages_altered() {
+    let words = every_word_of_calls_altered("write.txt", 6);
+    assert!(words > 100, "{words}");
+}
+
+#[test]
+fn every_digit_of_a_package_altered() {
+    let name = "write.txt";
+    let whole = text(name);
+    // The first package with n = 3, and the last refused call.
+    let refused = whole.rfind("refused ").expect("a refused call");
+    let of_three = whole.find("n 3\n").expect("a package");
+    let start = whole[..of_three].rfind("case ").expect("its name");
+    let end = start + 1 + whole[start + 1..].find("case ").expect("the next");
+    let content = [&whole[start..end], &whole[refused..]].concat();
+    assert_eq!(difference(name, &content), None);
+    let lines = content.lines().enumerate();
+    let lines: Vec<(usize, &str)> = lines
+        .filter(|line| line.1.starts_with("package "))
+        .collect();
+    assert!(lines.len() > 1);
+    for (index, line) in lines {
+        for at in "package ".len()..line.len() {
+            let digit = if &line[at..=at] == "0" { "1" } else { "0" };
+            let other = [&line[..at], digit, &line[at + 1..]].concat();
+            let found = difference(name, &with_line(&content, index, &other));
+            let place = format!("package, line {}, ", index + 1);
+            assert!(found.is_some_and(|text| text.starts_with(&place)), "{at}");
+        }
     }
 }
 
@@ -343,6 +380,8 @@ fn wrong_outputs() {
         changed!(values::VALUES, "values"),
         changed!(rank::RANK, "matrix"),
         changed!(rank::RANK, "rank"),
+        changed!(write::WRITE, "out"),
+        changed!(write::WRITE, "length"),
         changed!(readers::READ_PACKAGE, "n"),
         changed!(readers::READ_PACKAGE, "m"),
         changed!(readers::READ_PACKAGE, "serial"),

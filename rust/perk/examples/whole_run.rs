@@ -1,6 +1,6 @@
 //! A whole run at n = 64, m = 27: makes a key with a target that a secret order
-//! solves, proves it, writes the check file, checks it, and reads its fields
-//! back.
+//! solves, proves it, writes the package and the check file, checks it, and reads
+//! the package's fields back.
 //!
 //!     cd rust && cargo run -p perk --example whole_run
 //!
@@ -88,14 +88,6 @@ fn bytes(words: &[u16]) -> Vec<u8> {
     words.iter().flat_map(|word| word.to_be_bytes()).collect()
 }
 
-/// The bytes of a serial, highest first: two where it fits them, else four.
-fn serial_bytes(serial: u32) -> Vec<u8> {
-    match u16::try_from(serial) {
-        Ok(short) => short.to_be_bytes().to_vec(),
-        Err(_) => serial.to_be_bytes().to_vec(),
-    }
-}
-
 /// A field: tag, length, content.
 fn field(tag: u8, content: &[u8]) -> Vec<u8> {
     let length = (content.len() as u16).to_be_bytes();
@@ -180,15 +172,12 @@ fn main() -> Result<(), Refusal> {
     let verdict = perk::verify(key, &t, &q, &delta, &numbers, &alpha, &a)?;
     println!("verify: {verdict}");
 
-    // the check file
+    // the package, and the check file, which begins with it
+    let mut written = vec![0; perk::LARGEST_PACKAGE_BYTES];
+    let length = perk::write_package(key, SERIAL, &t, &a, &mut written)?;
+    written.truncate(length);
     let file = [
-        field(0x01, &[N as u8, M as u8]),
-        field(0x02, &bytes(&h)),
-        field(0x03, &bytes(&x)),
-        field(0x04, &bytes(&y)), // left out where y is all zero
-        field(0x05, &serial_bytes(SERIAL)),
-        field(0x06, &t),
-        field(0x07, &bytes(&a)),
+        written.clone(),
         field(0x11, &bytes(&q)),
         field(0x12, &bytes(&numbers)),
         field(0x13, &bytes(&delta)),
@@ -197,14 +186,18 @@ fn main() -> Result<(), Refusal> {
     .concat();
     println!("check file of {} bytes: {}", file.len(), said(&file));
 
-    // the package that it begins with, and its fields
+    // the package is found again, with its fields
     let package = perk::package_of(&file)?;
+    assert_eq!(package, written);
     let contents = perk::read_package(package)?;
     let (n, m, serial) = (contents.n, contents.m, contents.serial);
     println!(
         "package of {} bytes: serial {serial} n {n} m {m}",
         package.len()
     );
+    assert_eq!(perk::field(package, 0x01), [N as u8, M as u8]);
+    assert_eq!(perk::field(package, 0x02), bytes(&h));
+    assert_eq!(perk::field(package, 0x03), bytes(&x));
     assert_eq!(perk::field(package, 0x04), bytes(&y));
     assert_eq!(perk::field(package, 0x05), SERIAL.to_be_bytes());
     assert_eq!(perk::field(package, 0x06), t);

@@ -158,6 +158,26 @@ macro_rules! declarations {
                 start: *mut usize,
             ) -> usize;
 
+            #[link_name = concat!($prefix, "perk_write_package")]
+            pub fn perk_write_package(
+                n: usize,
+                m: usize,
+                h: *const u16,
+                h_len: usize,
+                x: *const u16,
+                x_len: usize,
+                y: *const u16,
+                y_len: usize,
+                serial: u32,
+                t: *const u8,
+                t_len: usize,
+                a: *const u16,
+                a_len: usize,
+                out: *mut u8,
+                out_len: usize,
+                length: *mut usize,
+            ) -> u32;
+
             #[link_name = concat!($prefix, "perk_check")]
             pub fn perk_check(bytes: *const u8, bytes_len: usize) -> u32;
         }

@@ -139,6 +139,37 @@
 //! # }
 //! ```
 //!
+//! To write a package, which is then read back as the same fields:
+//!
+//! ```
+//! use perk::{Key, Refusal};
+//!
+//! # fn main() -> Result<(), perk::Refusal> {
+//! # let k = |f: u16| [f, 0, 0, 0, 0, 0, 0, 0, 0, 0, 0, 0];
+//! let key = Key { n: 2, m: 1, h: &[2, 1], x: &[1, 2], y: &[0] };
+//! let (t, a) = ([1, 1], k(5));
+//! let mut out = [0; perk::LARGEST_PACKAGE_BYTES];
+//! let length = perk::write_package(key, 7, &t, &a, &mut out)?;
+//! let package = &out[..length];
+//!
+//! let contents = perk::read_package(package)?;
+//! assert_eq!((contents.n, contents.m, contents.serial), (2, 1, 7));
+//! assert_eq!(perk::field(package, 0x01), [2, 1]); // n, m
+//! assert_eq!(perk::field(package, 0x02), [0, 2, 0, 1]); // H
+//! assert_eq!(perk::field(package, 0x03), [0, 1, 0, 2]); // x
+//! assert_eq!(perk::field(package, 0x04), []); // y is all zero
+//! assert_eq!(perk::field(package, 0x05), [0, 7]); // the serial
+//! assert_eq!(perk::field(package, 0x06), [1, 1]); // t
+//! assert_eq!(perk::field(package, 0x07)[..2], [0, 5]); // a, coordinate 0
+//!
+//! // it has 56 bytes, and 55 are too few
+//! assert_eq!(length, 56);
+//! let answer = perk::write_package(key, 7, &t, &a, &mut [0; 55]);
+//! assert_eq!(answer, Err(Refusal::ShortOutput));
+//! # Ok(())
+//! # }
+//! ```
+//!
 //! To read a package:
 //!
 //! ```
@@ -214,7 +245,10 @@ pub mod c;
 mod package;
 mod refusal;
 
-pub use package::{check, field, package_of, read_check_file, read_package, Contents};
+pub use package::{
+    check, field, package_of, read_check_file, read_package, write_package, Contents,
+    LARGEST_PACKAGE_BYTES,
+};
 pub use refusal::{Refusal, Verdict};
 
 /// The words of an element of K.

@@ -2,6 +2,7 @@
 
 use crate::c;
 use crate::refusal::{self, Refusal, Verdict};
+use crate::Key;
 
 /// The tag of q, the first field that a check file has after its package.
 const Q: u8 = 0x11;
@@ -131,6 +132,77 @@ pub fn field(bytes: &[u8], tag: u8) -> &[u8] {
     // variable, so it does not overlap the slice.
     let len = unsafe { c::perk_field(bytes.as_ptr(), bytes.len(), tag, &mut start) };
     &bytes[start..start + len]
+}
+
+/// The bytes of the largest package, with n = 64, m = 63, a target and a serial
+/// of four bytes: an output for [`write_package`] that is long enough for every
+/// package.
+pub const LARGEST_PACKAGE_BYTES: usize = 8873;
+
+/// Writes a package, with the fields that [`read_package`] lists, and returns its
+/// length. `out` then begins with the package, and its bytes beyond that length
+/// keep their content.
+///
+/// - `serial`: any number.
+/// - `t`: the masked witness, n d bytes.
+/// - `a`: the proof, 12 d words.
+/// - `out`: at least the length of the package, written. A package has
+///   20 + 2 m n + 2 n + n d + 24 d bytes, 2 or 4 more for the serial, and 3 + 2 m
+///   more where some element of y is not zero; [`LARGEST_PACKAGE_BYTES`] is always
+///   enough.
+///
+/// Each package has one form, which is chosen here: field 04 is left out where y is
+/// all zero, and the serial takes two bytes where it fits them, else four. Nothing
+/// is verified: `t` and `a` may be any within the limits.
+///
+/// Proved besides: [`read_package`] takes what is written, with the same n, m and
+/// serial, and [`field`] finds in it what was lent, for every tag, and nothing for
+/// 04 where y is all zero. And for every package that `read_package` takes, its
+/// fields, with m zeros as y where 04 is absent, are written into an output of at
+/// least its length as its very bytes.
+///
+/// # Errors
+///
+/// In this order: [`Refusal::SizeN`], [`Refusal::SizeM`],
+/// [`Refusal::SliceLength`] (`h`, `x`, `y`, `t`, `a`, but not `out`),
+/// [`Refusal::KeyElement`] (`h`, `x`, `y`), [`Refusal::DependentRows`] (`h`),
+/// [`Refusal::Bit`] (`t`), [`Refusal::Coordinate`] (`a`), and then
+/// [`Refusal::ShortOutput`], where `out` is shorter than the package. Then `out`
+/// keeps its content.
+pub fn write_package(
+    key: Key<'_>,
+    serial: u32,
+    t: &[u8],
+    a: &[u16],
+    out: &mut [u8],
+) -> Result<usize, Refusal> {
+    let Key { n, m, h, x, y } = key;
+    let mut length = 0;
+    // SAFETY: each pointer stands with the length of its slice, so they name
+    // aligned memory that is valid to read and, of `out`, to write. `out` and
+    // `length` are exclusive borrows, so neither overlaps the other or a slice that
+    // is read.
+    let number = unsafe {
+        c::perk_write_package(
+            n,
+            m,
+            h.as_ptr(),
+            h.len(),
+            x.as_ptr(),
+            x.len(),
+            y.as_ptr(),
+            y.len(),
+            serial,
+            t.as_ptr(),
+            t.len(),
+            a.as_ptr(),
+            a.len(),
+            out.as_mut_ptr(),
+            out.len(),
+            &mut length,
+        )
+    };
+    refusal::answer(number).map(|()| length)
 }
 
 /// Whether the proof in a check file is accepted: as [`verify`](crate::verify)

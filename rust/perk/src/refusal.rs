@@ -38,6 +38,9 @@ pub enum Refusal {
     FieldLength = 11,
     /// 12: bytes follow the last field.
     BytesFollow = 12,
+    /// 13: the output is shorter than what is to be written. Of
+    /// [`write_package`](crate::write_package), after all its other refusals.
+    ShortOutput = 13,
     /// 14: the field 04 of a file is present, and all its elements are zero.
     ZeroTarget = 14,
     /// 15: some coefficients from F, not all zero, combine the rows of H to zero:
@@ -53,7 +56,7 @@ pub enum Refusal {
 
 impl Refusal {
     /// All refusals, in the order of their numbers.
-    pub const ALL: [Refusal; 16] = [
+    pub const ALL: [Refusal; 17] = [
         Refusal::SizeN,
         Refusal::SizeM,
         Refusal::SliceLength,
@@ -66,13 +69,14 @@ impl Refusal {
         Refusal::Tag,
         Refusal::FieldLength,
         Refusal::BytesFollow,
+        Refusal::ShortOutput,
         Refusal::ZeroTarget,
         Refusal::DependentRows,
         Refusal::SpareCode,
         Refusal::LongSerial,
     ];
 
-    /// Its number, 1 to 12, 14, 15, 16 or 19, which the C function returns.
+    /// Its number, 1 to 16 or 19, which the C function returns.
     pub const fn number(self) -> u32 {
         self as u32
     }
@@ -108,6 +112,7 @@ impl fmt::Display for Refusal {
             Refusal::Tag => "a tag is not the one that comes next",
             Refusal::FieldLength => "a field's length is not one stated for it",
             Refusal::BytesFollow => "bytes follow the last field",
+            Refusal::ShortOutput => "the output is shorter than what is to be written",
             Refusal::ZeroTarget => "field 04 is present and all its elements are zero",
             Refusal::DependentRows => {
                 "some coefficients from F, not all zero, combine the rows of H to zero"

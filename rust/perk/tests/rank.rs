@@ -142,24 +142,27 @@ fn four(h: [u16; 12]) -> Case {
         masks: vec![0; WORDS],
         t: vec![0; 8],
         a: vec![0; WORDS * 2],
+        serial: 7,
         t_out: vec![common::BYTE; 8],
         polynomials: vec![WORD; WORDS * 7 * 3],
         a_out: vec![WORD; WORDS * 2],
         values: vec![WORD; WORDS * 7],
+        package: vec![common::BYTE; 110],
     }
 }
 
-/// What the four functions of a key answer.
-fn answers(case: &mut Case) -> [Result<(), Refusal>; 4] {
+/// What the five functions of a key answer.
+fn answers(case: &mut Case) -> [Result<(), Refusal>; 5] {
     let values = case.values();
     let verdict = case.verify().map(|_| ());
-    [values, verdict, case.constraints(), case.prove()]
+    let package = case.write_package().map(|_| ());
+    [values, verdict, case.constraints(), case.prove(), package]
 }
 
 #[test]
 fn keys_whose_rows_lean() {
     let independent = [1024, 1, 3, 0, 0, 7, 0, 0, 0, 0, 0, 9];
-    assert_eq!(answers(&mut four(independent)), [Ok(()); 4]);
+    assert_eq!(answers(&mut four(independent)), [Ok(()); 5]);
     for h in [
         // row 1 is 2 times row 0, row 2 is 2 times row 0, row 2 is row 1
         [1024, 1, 3, 0, 5, 2, 6, 0, 0, 0, 0, 9],
@@ -175,17 +178,17 @@ fn keys_whose_rows_lean() {
         [0; 12],
     ] {
         let mut case = four(h);
-        assert_eq!(answers(&mut case), [Err(DependentRows); 4], "{h:?}");
+        assert_eq!(answers(&mut case), [Err(DependentRows); 5], "{h:?}");
         assert!(case.nothing_written());
         // x and y above the limit come before, a bit of u or t after
         (case.u[0], case.t[0]) = (2, 2);
-        assert_eq!(answers(&mut case), [Err(DependentRows); 4], "{h:?}");
+        assert_eq!(answers(&mut case), [Err(DependentRows); 5], "{h:?}");
         case.y[2] = 2048;
-        assert_eq!(answers(&mut case), [Err(KeyElement); 4], "{h:?}");
+        assert_eq!(answers(&mut case), [Err(KeyElement); 5], "{h:?}");
         (case.x[3], case.y[2]) = (2048, 0);
-        assert_eq!(answers(&mut case), [Err(KeyElement); 4], "{h:?}");
+        assert_eq!(answers(&mut case), [Err(KeyElement); 5], "{h:?}");
         case.x.pop();
-        assert_eq!(answers(&mut case), [Err(SliceLength); 4], "{h:?}");
+        assert_eq!(answers(&mut case), [Err(SliceLength); 5], "{h:?}");
         assert!(case.nothing_written());
     }
 }

@@ -75,8 +75,8 @@ fn of_key() -> Vec<(u32, Fault)> {
     .concat()
 }
 
-/// The four functions of a key.
-fn entries() -> [Entry; 4] {
+/// The five functions of a key.
+fn entries() -> [Entry; 5] {
     [
         Entry {
             name: "constraints",
@@ -133,6 +133,27 @@ fn entries() -> [Entry; 4] {
                 &elements![5, 2, t],
                 &of_key(),
                 &lengths![t q delta masks alpha a],
+            ]
+            .concat(),
+        },
+        Entry {
+            name: "write_package",
+            call: |case| case.write_package().map(|_| ()),
+            order: &[1, 2, 3, 4, 15, 5, 6, 13],
+            faults: [
+                &[
+                    (13, (|case| _ = case.package.pop()) as Fault),
+                    (13, |case| case.package = Vec::new()),
+                    // no room for the field of a target, or for a longer serial
+                    (13, |case| case.y[0] = 1),
+                    (13, |case| case.serial = 65536),
+                ],
+                &elements![6, 2048, a][..],
+                &elements![6, 65535, a],
+                &elements![5, 2, t],
+                &elements![5, 255, t],
+                &of_key(),
+                &lengths![t a],
             ]
             .concat(),
         },
@@ -232,7 +253,7 @@ fn numbers_and_words() {
     let numbers = Refusal::ALL.map(Refusal::number);
     assert_eq!(
         numbers,
-        [1, 2, 3, 4, 5, 6, 7, 8, 9, 10, 11, 12, 14, 15, 16, 19]
+        [1, 2, 3, 4, 5, 6, 7, 8, 9, 10, 11, 12, 13, 14, 15, 16, 19]
     );
     let error: &dyn std::error::Error = &Refusal::Position;
     assert_eq!(error.to_string(), "a position is 2^d or more");

@@ -8,6 +8,7 @@ use crate::elimination::cleared;
 use crate::key::{bits, elements_of_f, elements_of_k, judge_columns, rows, witness, Key, Sizes};
 use crate::large_field::{COORDINATES, K};
 use crate::lent;
+use crate::package::package_bytes;
 use crate::polynomial::Polynomial;
 use crate::refusal::Refusal;
 use crate::small_field::F;
@@ -203,4 +204,27 @@ pub fn verify(
     } else {
         Ok(Verdict::Rejected)
     }
+}
+
+/// The entry write package: "key, serial, masked witness and proof in, package
+/// out"; "It answers the length; output bytes beyond that length keep their
+/// content". The output has no stated length; 13 "when the output slice is
+/// shorter than the package, after all checks of values".
+pub fn write_package(
+    key: Key<'_>,
+    serial: u32,
+    t: &[u8],
+    a: &[u16],
+    out: &mut [u8],
+) -> Result<usize, Refusal> {
+    let sizes = key.sizes()?;
+    key.judge_lengths(sizes, &lent![t, a])?;
+    key.judged(sizes)?;
+    bits(t)?;
+    elements_of_k(a)?;
+
+    let package = package_bytes(key, serial, t, a);
+    let room = out.get_mut(..package.len()).ok_or(Refusal::ShortOutput)?;
+    room.copy_from_slice(&package);
+    Ok(package.len())
 }

@@ -30,6 +30,8 @@ pub enum Refusal {
     FieldLength,
     /// 12: "bytes follow the last field".
     BytesFollow,
+    /// 13: "when the output slice is shorter than the package".
+    ShortOutput,
     /// 14: "field 04 is present and all its elements are zero".
     ZeroTarget,
     /// 15: "when some coefficients from F, not all zero, combine the rows of H to
@@ -43,7 +45,7 @@ pub enum Refusal {
 
 impl Refusal {
     /// All refusals in the order of their numbers.
-    pub const ALL: [Refusal; 16] = [
+    pub const ALL: [Refusal; 17] = [
         Refusal::SizeN,
         Refusal::SizeM,
         Refusal::SliceLength,
@@ -56,6 +58,7 @@ impl Refusal {
         Refusal::Tag,
         Refusal::FieldLength,
         Refusal::BytesFollow,
+        Refusal::ShortOutput,
         Refusal::ZeroTarget,
         Refusal::DependentRows,
         Refusal::SpareCode,
@@ -77,6 +80,7 @@ impl Refusal {
             Refusal::Tag => 10,
             Refusal::FieldLength => 11,
             Refusal::BytesFollow => 12,
+            Refusal::ShortOutput => 13,
             Refusal::ZeroTarget => 14,
             Refusal::DependentRows => 15,
             Refusal::SpareCode => 16,

@@ -4,7 +4,8 @@ use mathlib.Core.List.{[], _∷_, _++_}
 use Rattle.checkfile.specs.declared.Checked.{Checked}
 use Rattle.checkfile.specs.declared.Checked.the-variants.{Accepted, Rejected, Refused}
 use Rattle.checkfile.specs.Line.{acceptedText, rejectedText, refusedText, decimal, saidOf, lineOf, printed}
-use Rattle.checkfile.proofs.Text.{Stands, stands-more, line-printed, line-short, printed-fits}
+use Rattle.copying.proofs.Filled.{Stands, stands-first}
+use Rattle.checkfile.proofs.Text.{stands-more, line-printed, line-short, printed-fits}
 use borrow.Author.Needs.{needs}
 use Rattle.checkfile.proofs.line.Statement.{statement}
 use Rattle.checkfile.proofs.line.Tie as tie
@@ -61,7 +62,7 @@ returns-2 c =
     let e = c .before .before .before .before .before .before .before .put-contents .ensures in
     let f = c .before .before .put-text .ensures in
     let k = c .before .before .before .before .before .before .before .before .before .before .checked .given .0 .0 in
-    let w : Stands s (saidOf k) _ _ = record { is = e .0; end = e .1 } in
+    let w : Stands s 0 (saidOf k) _ _ = stands-first (e .0) (e .1) in
     printed-fits (c .before .before .before .before .before .before .before .before .before .before .before .before .before .before .args .checked) s (line-printed (Accepted k) (stands-more acceptedText 10 w (omega arith) (f .0) (f .1)) (omega arith) ∙ ap (λ (k : Checked). printed k s) (sym (c .before .before .before .before .before .before .before .before .before .before .checked .given .1)))
 
 same-length-2 : tie.Need-same-length-2
@@ -74,7 +75,7 @@ returns-3 c =
     let e = c .before .before .before .before .before .before .before .put-contents2 .ensures in
     let f = c .before .before .put-text2 .ensures in
     let k = c .before .before .before .before .before .before .before .before .before .before .checked2 .given .0 .0 in
-    let w : Stands s (saidOf k) _ _ = record { is = e .0; end = e .1 } in
+    let w : Stands s 0 (saidOf k) _ _ = stands-first (e .0) (e .1) in
     printed-fits (c .before .before .before .before .before .before .before .before .before .before .before .before .before .before .args .checked) s (line-printed (Rejected k) (stands-more rejectedText 10 w (omega arith) (f .0) (f .1)) (omega arith) ∙ ap (λ (k : Checked). printed k s) (sym (c .before .before .before .before .before .before .before .before .before .before .checked2 .given .1)))
 
 same-length-3 : tie.Need-same-length-3
@@ -87,7 +88,7 @@ returns-4 c =
     let e = c .before .before .before .before .before .before .before .put-text3 .ensures in
     let f = c .before .before .put-number .ensures in
     let k = c .before .before .before .before .before .before .before .before .before .before .before .checked3 .given .0 .0 in
-    let w : Stands s (refusedText ++ (32 ∷ [])) _ _ = record { is = e .0; end = e .1 } in
+    let w : Stands s 0 (refusedText ++ (32 ∷ [])) _ _ = record { is = e .0; end = e .1 } in
     printed-fits (c .before .before .before .before .before .before .before .before .before .before .before .before .before .before .before .args .checked) s (line-printed (Refused k) (stands-more (decimal (k .number)) 10 w (omega arith) (f .0) (f .1)) (omega arith) ∙ ap (λ (k : Checked). printed k s) (sym (c .before .before .before .before .before .before .before .before .before .before .before .checked3 .given .1)))
 
 pub line-spec : {M : Type 1} → statement M

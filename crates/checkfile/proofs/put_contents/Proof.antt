@@ -4,7 +4,8 @@ use mathlib.Core.List.{[], _∷_, _++_}
 use lib.ListN.{length}
 use Rattle.lists.specs.Words.{put}
 use Rattle.checkfile.specs.Line.{serialText, nText, mText, decimal}
-use Rattle.checkfile.proofs.Text.{Stands, stands-more, six}
+use Rattle.copying.proofs.Filled.{Stands, first-stands}
+use Rattle.checkfile.proofs.Text.{stands-more, six}
 use borrow.Author.Needs.{needs}
 use Rattle.checkfile.proofs.put_contents.Statement.{statement}
 use Rattle.checkfile.proofs.put_contents.Tie as tie
@@ -59,14 +60,14 @@ returns c =
     let at₄ = e₄ .2 in
     let at₅ = e₅ .1 in
     let at₆ = e₆ .2 in
-    let w₁ : Stands s (serialText ++ (32 ∷ [])) _ _ = record { is = e₁ .0; end = e₁ .1 } in
+    let w₁ : Stands s 0 (serialText ++ (32 ∷ [])) _ _ = record { is = e₁ .0; end = e₁ .1 } in
     let w₂ = stands-more (decimal (k .serial)) 32 w₁ (omega (arith, e₂ .1)) (e₂ .0) (e₂ .1) in
     let w₃ = stands-more nText 32 w₂ (omega (arith, e₃ .1)) (e₃ .0) (e₃ .1) in
     let w₄ = stands-more (decimal (k .n)) 32 w₃ (omega (arith, e₄ .1)) (e₄ .0) (e₄ .1) in
     let w₅ = stands-more mText 32 w₄ (omega (arith, e₅ .1)) (e₅ .0) (e₅ .1) in
     let w₆ = stands-more (decimal (k .m)) 32 w₅ (omega (arith, e₆ .1)) (e₆ .0) (e₆ .1) in
     let all = six (serialText ++ (32 ∷ [])) (decimal (k .serial) ++ (32 ∷ [])) (nText ++ (32 ∷ [])) (decimal (k .n) ++ (32 ∷ [])) (mText ++ (32 ∷ [])) (decimal (k .m) ++ (32 ∷ [])) in
-    (w₆ .is ∙ ap (λ a. put 0 a s) all, w₆ .end ∙ ap length all, omega arith)
+    (w₆ .is ∙ ap (λ a. put 0 a s) all, first-stands w₆ .1 ∙ ap length all, omega arith)
 
 pub put-contents-spec : {M : Type 1} → statement M
 put-contents-spec =

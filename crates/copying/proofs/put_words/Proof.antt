@@ -13,12 +13,12 @@ use Rattle.copying.proofs.put_words.Tie as tie
 
 -- the two bytes of one word more
 two-more : (d : List ℕ) (at : ℕ) (s : List ℕ) (i : ℕ) {out : List ℕ} {k : ℕ} → out ≡ paste d at (wordBytes s) (2 * i) → k ≡ at + 2 * i → at + 2 * length s ≤ length d → i < length s
-    → set (set out k (getD s i 0 / 256)) (k + 1) (getD s i 0 % 256) ≡ paste d at (wordBytes s) (2 * (i + 1))
-two-more d at s i e f h b =
+    → {a b : ℕ} → a ≡ getD s i 0 / 256 → b ≡ getD s i 0 % 256 → set (set out k a) (k + 1) b ≡ paste d at (wordBytes s) (2 * (i + 1))
+two-more d at s i e f h b p q =
     let long = bytes-length s in
-    let first = paste-more d at (wordBytes s) (2 * i) e f (sym (bytes-high s i)) (omega arith) (omega arith) in
+    let first = paste-more d at (wordBytes s) (2 * i) e f (p ∙ sym (bytes-high s i)) (omega arith) (omega arith) in
     let both : 2 * i + 1 + 1 ≡ 2 * (i + 1) = omega arith in
-    paste-more d at (wordBytes s) (2 * i + 1) first (omega arith) (sym (bytes-low s i)) (omega arith) (omega arith) ∙ ap (paste d at (wordBytes s)) both
+    paste-more d at (wordBytes s) (2 * i + 1) first (omega arith) (q ∙ sym (bytes-low s i)) (omega arith) (omega arith) ∙ ap (paste d at (wordBytes s)) both
 
 abbrev Inv-loop : tie.InvT-loop
 Inv-loop words at out₀ i₀ k₀ out i k = (i ≤ length words) × (k ≡ at + 2 * i) × (length out ≡ length out₀) × (out ≡ paste out₀ at (wordBytes words) (2 * i))
@@ -35,14 +35,20 @@ mul-x c = omega arith
 shared-slice-read-x : tie.Need-shared-slice-read-x Inv-loop μ-loop
 shared-slice-read-x c = omega arith
 
+mul-exchanged : tie.Need-mul-exchanged Inv-loop μ-loop
+mul-exchanged c = omega arith
+
+add-exchanged : tie.Need-add-exchanged Inv-loop μ-loop
+add-exchanged c = omega (arith, c .shared-slice-known .given (c .before .before .loop .i))
+
 cast-out : tie.Need-cast-out Inv-loop μ-loop
-cast-out c = omega (arith, c .shared-slice-known .given (c .before .before .loop .i))
+cast-out c = omega arith
 
 slice-write-out : tie.Need-slice-write-out Inv-loop μ-loop
 slice-write-out c = omega arith
 
 cast-out-2 : tie.Need-cast-out-2 Inv-loop μ-loop
-cast-out-2 c = omega arith
+cast-out-2 c = omega (arith, c .shared-slice-known .given (c .before .before .loop .i))
 
 add-out : tie.Need-add-out Inv-loop μ-loop
 add-out c = omega arith
@@ -63,7 +69,7 @@ loop-again : tie.Need-loop-again Inv-loop μ-loop
 loop-again c =
     let l = c .before .before .loop in
     let a = c .before .before .before .args in
-    (omega arith, omega arith, simp length-set (l .inv .2), two-more (a .out .now) (a .at) (a .words .now) (l .i) (l .inv .3) (l .inv .1) (omega arith) (omega arith))
+    (omega arith, omega arith, simp length-set (l .inv .2), two-more (a .out .now) (a .at) (a .words .now) (l .i) (l .inv .3) (l .inv .1) (omega arith) (omega arith) (omega (arith, c .shared-slice-known .given (l .i))) (omega (arith, c .shared-slice-known .given (l .i))))
 
 same-length : tie.Need-same-length Inv-loop μ-loop
 same-length c = c .before .loop .inv .2
@@ -83,6 +89,8 @@ put-words-spec =
     loop-holds
     mul-x
     shared-slice-read-x
+    mul-exchanged
+    add-exchanged
     cast-out
     slice-write-out
     cast-out-2

@@ -1,6 +1,6 @@
 use mathlib.Core.Path.{sym, ap}
 use Rattle.rank.specs.declared.Ranked.{Ranked}
-use Rattle.perk.specs.Rank.{rankOr}
+use Rattle.perk.specs.Answered.{rankOr}
 use borrow.Author.Needs.{needs}
 use Rattle.perk.proofs.put_rank.Statement.{statement}
 use Rattle.perk.proofs.put_rank.Tie as tie

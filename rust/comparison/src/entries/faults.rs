@@ -1,9 +1,12 @@
 //! The groups of cases with faults, for every entry that takes a key, and for
 //! rank.
 
+use super::files::fields::HEAD;
 use super::keyed::{of_sizes, sizes, Keyed, EVERY_N};
+use super::write::{package_length, OUT};
 use crate::case::{decided, Case, Group};
 use crate::kinds::Kind;
+use crate::lent::Lent;
 use crate::slices::{self, Elements, H, M, N, POSITIONS};
 use reference::key::Sizes;
 use reference::large_field::COORDINATES;
@@ -38,6 +41,8 @@ pub enum Fault {
     Lean(Leaning),
     /// The position in this place is this spare code.
     Spare(usize, u16),
+    /// The output is shorter than the package by this many bytes, or empty.
+    Short(usize),
 }
 
 impl Fault {
@@ -50,6 +55,7 @@ impl Fault {
             Fault::Element(name, ..) => slices::named(name).elements.refusal(),
             Fault::Lean(_) => Refusal::DependentRows,
             Fault::Spare(..) => Refusal::SpareCode,
+            Fault::Short(_) => Refusal::ShortOutput,
         }
     }
 
@@ -90,6 +96,10 @@ impl Fault {
                 if !positions.is_empty() && positions.element(place) < 1 << d {
                     positions.set(place, code);
                 }
+            }
+            Fault::Short(by) => {
+                let len = package_length(case).saturating_sub(by);
+                case.outputs[OUT] = Lent::any_bytes(len, generator);
             }
         }
     }
@@ -199,6 +209,12 @@ fn faults<E: Keyed>(sizes: Sizes, many: bool, generator: &mut Generator) -> Vec<
     if E::REFUSALS.contains(&Refusal::SpareCode) && n < 1 << d {
         for place in [0, n - 1, generator.below(n)] {
             list.extend([n, (1 << d) - 1].map(|code| Fault::Spare(place, code as u16)));
+        }
+    }
+    if E::REFUSALS.contains(&Refusal::ShortOutput) {
+        list.extend([1, usize::MAX].map(Fault::Short));
+        if many {
+            list.extend([2, 3, HEAD + 2 * m, 24 * d, 24 * d + HEAD].map(Fault::Short));
         }
     }
     list

@@ -52,6 +52,7 @@ const ENTRY: Entry = Entry {
     reference: NONE,
     packed: None,
     rows: None,
+    package: None,
     table: None,
     groups: || GROUPS.to_vec(),
     least: Vec::new,

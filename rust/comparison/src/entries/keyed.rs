@@ -38,6 +38,10 @@ pub trait Keyed: Sized {
         super::leaning::of_right::<Self>(sizes, leaning, generator)
     }
 
+    /// Adds the numbers and the outputs that are not among the lists above to a
+    /// case with its inputs.
+    fn add_others(_: &mut Case, _: &mut Generator) {}
+
     /// The slices that it reads, those of the key first.
     fn inputs() -> Vec<Slice> {
         let names = Self::OF_KEY.iter().chain(Self::READS);
@@ -65,6 +69,7 @@ pub const ENTRY: Entry = Entry {
     reference: |_, _| unreachable!("each entry has its own"),
     packed: None,
     rows: Some(rows_of_key),
+    package: None,
     table: None,
     groups: Vec::new,
     least: Vec::new,
@@ -105,10 +110,10 @@ fn rows_of_key(taken: &Taken, answer: u32) -> Option<(usize, Vec<u16>)> {
 
 /// What y is: all zero, not all zero, of another length than m, or with an
 /// element above 2047, of any length.
-const TARGETS: [&str; 4] = ["zero", "nonzero", "length", "above"];
+pub const TARGETS: [&str; 4] = ["zero", "nonzero", "length", "above"];
 
 /// What y of a call is.
-fn target_of(taken: &Taken) -> &'static str {
+pub fn target_of(taken: &Taken) -> &'static str {
     let y = taken.words(Y);
     let [zero, nonzero, length, above] = TARGETS;
     if y.iter().any(|&word| word > F::LARGEST) {
@@ -124,7 +129,7 @@ fn target_of(taken: &Taken) -> &'static str {
 
 /// The answers that an entry can give for such a y: all, or the refusals up to
 /// the one that applies to it.
-fn answers_for<E: Keyed>(target: &str) -> Vec<String> {
+pub fn answers_for<E: Keyed>(target: &str) -> Vec<String> {
     let up_to = |last| {
         let place = E::REFUSALS.iter().position(|&refusal| refusal == last);
         &E::REFUSALS[..place.map_or(0, |place| place + 1)]
@@ -209,7 +214,9 @@ fn with_inputs<E: Keyed>(
     for name in E::SIZES {
         outputs.push(name, Lent::any_size(generator));
     }
-    Case::new(numbers(sizes), inputs, outputs)
+    let mut case = Case::new(numbers(sizes), inputs, outputs);
+    E::add_others(&mut case, generator);
+    case
 }
 
 /// A case with slices of the lengths of these sizes and random content, which

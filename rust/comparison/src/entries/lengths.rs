@@ -125,7 +125,7 @@ pub fn empty_slices<E: Keyed>() -> Group {
 
 /// The case with this set of slices empty. With one digit the mask slices are
 /// empty anyway.
-fn with_empty<E: Keyed>(right: &Case, sizes: Sizes, set: usize) -> Case {
+pub fn with_empty<E: Keyed>(right: &Case, sizes: Sizes, set: usize) -> Case {
     let mut case = right.clone();
     for (index, slice) in E::slices().iter().enumerate() {
         if set >> index & 1 == 1 {

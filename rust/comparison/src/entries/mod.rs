@@ -23,14 +23,16 @@ pub mod lengths;
 pub mod package_field;
 pub mod prove;
 pub mod rank;
+pub mod read_back;
 pub mod readers;
 pub mod rounds;
 pub mod values;
 pub mod verify;
 pub mod witnesses;
+pub mod write;
 
-/// All entries, in the order of the specification, then rank, the check of
-/// perkcheck, demand 3 and completeness.
+/// All entries, in the order of the specification, then rank, write package, the
+/// check of perkcheck, demand 3, completeness, and packages that are read back.
 pub const ALL: &[Entry] = &[
     field::SUM,
     field::PRODUCT,
@@ -42,9 +44,11 @@ pub const ALL: &[Entry] = &[
     readers::READ_CHECK_FILE,
     package_field::FIELD,
     rank::RANK,
+    write::WRITE,
     check::CHECK,
     demand_3::BOTH_FACTS,
     completeness::COMPLETENESS,
+    read_back::READ_BACK,
 ];
 
 /// The answer without a refusal; of verify and check, Accepted.
@@ -52,6 +56,9 @@ const DONE: u32 = 0;
 
 /// 8: "some top coefficient of the n + m polynomials isn't zero".
 const TOP: u32 = 8;
+
+/// 13: "when the output slice is shorter than the package".
+const SHORT: u32 = 13;
 
 /// 15: "when some coefficients from F, not all zero, combine the rows of H to
 /// zero".
@@ -70,6 +77,11 @@ const REFUSED: u32 = 100;
 /// The number of an answer of the reference.
 fn number(answer: Result<(), Refusal>) -> u32 {
     answer.map_or_else(Refusal::number, |()| DONE)
+}
+
+/// Names as texts.
+fn texts(names: &[&str]) -> Vec<String> {
+    names.iter().map(ToString::to_string).collect()
 }
 
 /// An element of an output that the specification states.

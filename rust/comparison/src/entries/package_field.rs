@@ -53,6 +53,10 @@ const OUTSIDE: u32 = 100;
 pub const FIELD: Entry = Entry {
     name: "field of a package",
     refusals: &[],
+    package: Some(|taken, _| {
+        let bytes = taken.bytes(BYTES);
+        reference::read_package(bytes).ok().map(|_| bytes.to_vec())
+    }),
     library: |taken, outputs| {
         let bytes = taken.bytes(BYTES);
         let tag = taken.numbers[TAG] as u8;

@@ -3,7 +3,7 @@
 
 use super::faults::fault_groups;
 use super::keyed::{self, of_sizes, sizes, Keyed, BEFORE_ROWS};
-use super::{stated, DONE};
+use super::{stated, texts, DONE};
 use crate::case::{Case, Cell, Entry, Group, Least, Rows, Stated, Table, Taken};
 use crate::kinds::Kind;
 use crate::lent::Lent;
@@ -99,11 +99,6 @@ const REFUSED: [&str; 4] = ["1", "2", "3", "4"];
 /// The rows: sizes that are refused, one row of H, the most, and between.
 const OF_M: [&str; 4] = ["wrong", "one", "most", "between"];
 
-/// Names as texts.
-fn texts(names: &[&str]) -> Vec<String> {
-    names.iter().map(ToString::to_string).collect()
-}
-
 /// The rows with the columns that they can have. The rank of one row is never
 /// short but not 0.
 fn rows() -> Rows {
@@ -120,8 +115,8 @@ fn rows() -> Rows {
 }
 
 /// The row and the column of a call.
-fn cell(answer: u32, taken: &Taken) -> Cell {
-    let (n, m) = (taken.numbers[N], taken.numbers[M]);
+fn cell(answer: u32, case: &Case) -> Cell {
+    let (n, m) = (case.numbers[N], case.numbers[M]);
     let [wrong, one, most, between] = OF_M;
     let row = match Sizes::judged(n, m) {
         Err(_) => wrong,
@@ -130,7 +125,7 @@ fn cell(answer: u32, taken: &Taken) -> Cell {
         Ok(_) => between,
     };
     let [none, short, full] = RANKS;
-    let column = match reference::rank(n, m, taken.words(H), &mut vec![0; taken.words(H).len()]) {
+    let column = match reference::rank(n, m, case.words(H), &mut vec![0; case.words(H).len()]) {
         Ok(_) if answer != DONE => answer.to_string(),
         Ok(0) => none.to_string(),
         Ok(rank) if rank < m => short.to_string(),

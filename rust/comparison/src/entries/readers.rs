@@ -2,14 +2,17 @@
 
 use super::files::fields::{content_of, serial_field, set_serial, walked};
 use super::files::{self, groups, table, File, Reader, BYTES};
-use super::{number, stated, DONE};
+use super::{number, stated, DONE, REJECTED};
 use crate::case::{Call, Case, Entry, Group, Stated, Table, Taken};
 use crate::lent::Lent;
 use crate::library;
 use crate::named::Named;
-use reference::package::{join, tag, WrittenField};
+use reference::package::{join, package_of, tag, WrittenField};
 use reference::samples::{Generator, Sample};
 use reference::{Contents, Refusal};
+use std::collections::BTreeSet;
+use std::path::{Path, PathBuf};
+use std::{fs, io};
 
 /// The size n that is read.
 pub const N: &str = "n";
@@ -87,18 +90,63 @@ pub const ENTRY: Entry = Entry {
     reference: NONE,
     packed: None,
     rows: Some(files::rows_of_file),
+    package: Some(package_of_file),
     table: None,
     groups: Vec::new,
     least: Vec::new,
 };
+
+/// The package of a file that is not refused: the fields before q.
+fn package_of_file(taken: &Taken, answer: u32) -> Option<Vec<u8>> {
+    let read = [DONE, REJECTED].contains(&answer);
+    let fields = walked(taken.bytes(BYTES)).take_while(|field| field.tag != tag::Q);
+    read.then(|| join(&fields.collect::<Vec<_>>()))
+}
 
 /// No entry yet.
 const NONE: Call = |_, _| unreachable!("each entry has its own");
 
 /// The groups of a reader.
 fn groups_of<R: Reader>() -> Vec<Group> {
-    let own = vec![example::<R>(), groups::every_n::<R>(), groups::heads::<R>()];
+    let own = vec![
+        example::<R>(),
+        stored::<R>(),
+        groups::every_n::<R>(),
+        groups::heads::<R>(),
+    ];
     [own, groups::fault_groups::<R>()].concat()
+}
+
+/// The directory of the files that the program perkcheck_cases reads.
+fn stored_directory() -> PathBuf {
+    Path::new(env!("CARGO_MANIFEST_DIR")).join("../../crates/perkcheck_cases/data")
+}
+
+/// The files of a directory, in the order of their names; none where one cannot
+/// be read.
+fn stored_files(directory: &Path) -> Vec<Vec<u8>> {
+    let names = directory.read_dir().into_iter().flatten();
+    let paths: io::Result<BTreeSet<PathBuf>> =
+        names.map(|entry| entry.map(|entry| entry.path())).collect();
+    let files = paths.and_then(|paths| paths.iter().map(fs::read).collect());
+    files.unwrap_or_default()
+}
+
+/// The stored check files and, where a package is read, those that the accepted
+/// ones begin with.
+const fn stored<R: Reader>() -> Group {
+    Group::new("stored check files", |generator, each| {
+        for file in stored_files(&stored_directory()) {
+            match (R::FILE, package_of(&file)) {
+                (File::CheckFile, _) => each(files::case::<R>(&file, None, generator)),
+                (File::Package, []) => {}
+                (File::Package, package) => {
+                    each(files::case::<R>(package, Some(DONE), generator));
+                }
+            }
+        }
+    })
+    .with_any_rows()
 }
 
 /// A function of the library that reads a file.

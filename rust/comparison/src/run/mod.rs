@@ -2,13 +2,17 @@
 //!
 //! - [`call`]: one call, and what differs after it;
 //! - [`tally`]: the answers that were reached;
+//! - `again`: packages that are read, written again;
 //! - `others`: the program perkcheck and the test vectors.
 
+mod again;
 pub mod call;
 mod others;
 pub mod tally;
 
-use crate::case::{Case, Entry, Expected, Group};
+use crate::case::{Call, Case, Entry, Expected, Group};
+use crate::entries::write::WRITE;
+use again::Packages;
 use call::{alter, called, description, difference, expected_fault};
 use reference::samples::{independent, Generator};
 use reference::Refusal;
@@ -46,6 +50,8 @@ pub struct Run {
     /// The matrices H, by their hashes, whose rows were judged, and whether they
     /// depend on each other: many cases have the same H.
     judged: HashMap<u64, bool>,
+    /// Writes packages again.
+    writer: Call,
     passed: usize,
     failed: usize,
 }
@@ -61,12 +67,13 @@ fn generator_of(seed: u64, entry: &str, group: &str) -> Generator {
     Generator::new(Generator::new(seed).number() ^ hash)
 }
 
-/// An entry under way: the word that is still to be altered, and the cells that
-/// were reached.
+/// An entry under way: the word that is still to be altered, the cells that were
+/// reached, and the packages that were written again.
 struct Progress<'a> {
     entry: &'a Entry,
     spoil: Option<usize>,
     cells: Cells,
+    packages: Packages,
 }
 
 impl Run {
@@ -84,6 +91,7 @@ impl Run {
             calls: 0,
             done: 0,
             judged: HashMap::new(),
+            writer: WRITE.library,
             passed: 0,
             failed: 0,
         }
@@ -142,12 +150,17 @@ impl Run {
         self.calls += 1;
         self.done += usize::from(done);
         if let Some(table) = &entry.table {
-            let cell = (table.cell)(expected.answer, &case.taken);
+            let cell = (table.cell)(expected.answer, case);
             *progress.cells.entry(cell).or_default() += 1;
         }
 
         let fault = expected_fault(case, &expected)
-            .or_else(|| self.fault_of_rows(entry, group, case, expected.answer));
+            .or_else(|| self.fault_of_rows(entry, group, case, expected.answer))
+            .or_else(|| {
+                progress
+                    .packages
+                    .again(self.writer, entry, case, expected.answer)
+            });
         if fault.is_some() {
             return (found.answer, fault);
         }
@@ -230,6 +243,7 @@ impl Run {
             entry,
             spoil: self.spoil,
             cells: Cells::new(),
+            packages: Packages::new(generator_of(self.seed, entry.name, again::NAME)),
         };
         let groups = (entry.groups)();
         for group in &groups {
@@ -259,6 +273,10 @@ impl Run {
             faults.extend(missed);
         }
         self.report(&text, &faults);
+        if entry.package.is_some() {
+            let (text, faults) = progress.packages.summary(entry);
+            self.report(&text, &faults);
+        }
     }
 
     /// How many words were altered, how many of them were found, and how many

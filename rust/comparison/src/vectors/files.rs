@@ -162,7 +162,12 @@ impl Comparison<'_> {
     }
 
     /// A reader.
-    fn read(&mut self, name: &str, file: &List, [n, m, serial]: [&List; 3]) -> Result<(), String> {
+    pub fn read(
+        &mut self,
+        name: &str,
+        file: &List,
+        [n, m, serial]: [&List; 3],
+    ) -> Result<(), String> {
         let taken = self.file(file);
         let written = [N, M, SERIAL].map(|name| (name, Lent::any_number(self.generator)));
         let stated = Stated::outputs([(N, n), (M, m), (SERIAL, serial)]);
@@ -218,8 +223,8 @@ impl Comparison<'_> {
         Ok(())
     }
 
-    /// A check file with its line: the readers, the fields, check and verify,
-    /// and the program.
+    /// A check file with its line: the readers, the fields, check and verify, its
+    /// package written again, and the program.
     pub fn check_file(&mut self, file: &List, line: &Line) -> Result<(), String> {
         let fields = Fields::of(file)?;
         let stated = [&line.n, &line.m, &line.serial];
@@ -234,8 +239,10 @@ impl Comparison<'_> {
 
         let m = line.m.value(0);
         let slices = SLICES.map(|(name, tag)| (name, as_slice(name, with_tag(&contents, tag), m)));
-        let slices = slices.iter().map(|(name, list)| (*name, list));
-        self.verify(&slices.collect(), line)?;
+        let slices = slices.iter().map(|(name, list)| (*name, list)).collect();
+        self.verify(&slices, line)?;
+        let package = fields.package(file);
+        self.written_again([line.n.value(0), m], &slices, &line.serial, &package)?;
         self.program(file, line)
     }
 
@@ -278,7 +285,10 @@ impl Comparison<'_> {
         self.read("read check file", file, [&text.n, &text.m, &text.serial])?;
         self.package_fields(file, &fields, &contents)?;
         self.check_file(file, line)?;
-        self.verify(&text.slices(&text.solving), line)?;
+        let slices = text.slices(&text.solving);
+        self.verify(&slices, line)?;
+        let package = fields.package(file);
+        self.written_again(text.sizes(), &slices, &text.serial, &package)?;
 
         // Coordinate 0 of coefficient 0 is the first word of a.
         let mut tampered = file.clone();

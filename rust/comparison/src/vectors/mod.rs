@@ -6,13 +6,15 @@
 //! - [`text`]: reads a text file;
 //! - `calls`: the calls, and what is compared after each;
 //! - `files`: the check files;
-//! - `ranks`: the file of ranks, and keys whose rows lean on each other.
+//! - `ranks`: the file of ranks, and keys whose rows lean on each other;
+//! - `writes`: the file of packages, and packages that are written again.
 
 mod calls;
 mod files;
 pub mod list;
 mod ranks;
 pub mod text;
+mod writes;
 
 use crate::case::Entry;
 use crate::program;
@@ -47,11 +49,11 @@ fn text_name(n: usize, m: usize) -> String {
     format!("n{n:02}_m{m:02}.txt")
 }
 
-/// The files that are compared: the text files, that of ranks, and the check file
-/// of key A.
+/// The files that are compared: the text files, that of ranks, that of packages,
+/// and the check file of key A.
 pub fn names() -> Vec<String> {
     let texts = SIZES.iter().map(|&(n, m)| text_name(n, m));
-    let others = [ranks::NAME, KEY_A].map(str::to_string);
+    let others = [ranks::NAME, writes::NAME, KEY_A].map(str::to_string);
     texts.chain(others).collect()
 }
 
@@ -141,6 +143,7 @@ pub fn compare(
     let mut result = match name {
         KEY_A => comparison.key_a(content),
         ranks::NAME => comparison.ranks(content),
+        writes::NAME => comparison.writes(content),
         _ => comparison.text_file(name, content),
     };
     let mut outcome = comparison.outcome;

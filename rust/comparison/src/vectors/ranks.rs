@@ -2,7 +2,7 @@
 //! and of each of these the key whose rows lean on each other.
 
 use super::calls::{Comparison, Stated};
-use super::list::{error, List, Word, COORDINATES};
+use super::list::{List, Word, COORDINATES};
 use super::text::{Form, Lines, Text};
 use crate::case::Taken;
 use crate::entries::constraints::Constraints;
@@ -21,9 +21,6 @@ pub const NAME: &str = "rank.txt";
 /// The name of the entry.
 const RANK: &str = "rank";
 
-/// The most words of H on a line of a refused call.
-const WORDS: usize = 64;
-
 /// A part of the file with a rank.
 struct Ranked {
     sizes: [usize; 2],
@@ -41,25 +38,11 @@ struct Refused {
     answer: List,
 }
 
-/// The name of a part, which is one word.
-fn part(lines: &mut Lines, kind: &'static str) -> Result<(), String> {
-    let (line, values) = lines.next(kind)?;
-    match values[..] {
-        [_] => Ok(()),
-        _ => error(line, format!("{kind} has no name of one word")),
-    }
-}
-
-/// A decimal number.
-fn number(lines: &mut Lines, name: &'static str) -> Result<usize, String> {
-    Ok(lines.single(name, 1, Form::Decimal)?.value(0))
-}
-
 impl Ranked {
     /// The next part.
     fn read(lines: &mut Lines) -> Result<Ranked, String> {
-        part(lines, "case")?;
-        let [n, m] = [number(lines, "n")?, number(lines, "m")?];
+        lines.part("case")?;
+        let [n, m] = [lines.number("n")?, lines.number("m")?];
         Ok(Ranked {
             sizes: [n, m],
             h: lines.numbered("h", m, n, Form::F)?,
@@ -72,22 +55,11 @@ impl Ranked {
 impl Refused {
     /// The next part.
     fn read(lines: &mut Lines) -> Result<Refused, String> {
-        part(lines, "refused")?;
-        let sizes = [number(lines, "n")?, number(lines, "m")?];
-        let length = number(lines, "h_length")?;
-        let mut h = List {
-            name: "h_words",
-            words: Vec::new(),
-        };
-        while h.len() < length {
-            let (line, values) = lines.next(h.name)?;
-            let count = WORDS.min(length - h.len());
-            Lines::add(&mut h, line, &values, count, Form::F)?;
-        }
+        lines.part("refused")?;
         Ok(Refused {
-            sizes,
-            h,
-            matrix: number(lines, "matrix_length")?,
+            sizes: [lines.number("n")?, lines.number("m")?],
+            h: lines.lent("h_length", "h_words", Form::F)?,
+            matrix: lines.number("matrix_length")?,
             answer: lines.single("answer", 1, Form::Decimal)?,
         })
     }

@@ -11,6 +11,9 @@ const LINE: usize = 511;
 /// The most bytes of a file on a line.
 const BYTES: usize = 64;
 
+/// The most words of a slice of any length on a line.
+const WORDS: usize = 64;
+
 /// One byte of the check file changed.
 #[derive(Clone, Debug)]
 pub struct Change {
@@ -256,6 +259,39 @@ impl<'a> Lines<'a> {
         Ok(list)
     }
 
+    /// A name with one decimal number.
+    pub fn number(&mut self, name: &'static str) -> Result<usize, String> {
+        Ok(self.single(name, 1, Form::Decimal)?.value(0))
+    }
+
+    /// The name of a part, which is one word.
+    pub fn part(&mut self, kind: &'static str) -> Result<(), String> {
+        let (line, values) = self.next(kind)?;
+        match values[..] {
+            [_] => Ok(()),
+            _ => error(line, format!("{kind} has no name of one word")),
+        }
+    }
+
+    /// A slice of any length: its length, then its words on as many lines as they
+    /// need.
+    pub fn lent(
+        &mut self,
+        length: &'static str,
+        name: &'static str,
+        form: Form,
+    ) -> Result<List, String> {
+        let length = self.number(length)?;
+        let words = Vec::new();
+        let mut list = List { name, words };
+        while list.len() < length {
+            let (line, values) = self.next(name)?;
+            let count = WORDS.min(length - list.len());
+            Lines::add(&mut list, line, &values, count, form)?;
+        }
+        Ok(list)
+    }
+
     /// A name with this many numbered lines.
     pub fn numbered(
         &mut self,
@@ -277,7 +313,7 @@ impl<'a> Lines<'a> {
     }
 
     /// The bytes of a file, on one line or more.
-    fn bytes(&mut self, name: &'static str) -> Result<List, String> {
+    pub fn bytes(&mut self, name: &'static str) -> Result<List, String> {
         let words = Vec::new();
         let mut list = List { name, words };
         while list.is_empty() || self.next_name() == Some(name) {

@@ -57,6 +57,7 @@ pub fn entry(library: Call, groups: fn() -> Vec<Group>) -> Entry {
         reference: right,
         packed: None,
         rows: None,
+        package: None,
         table: None,
         groups,
         least: Vec::new,

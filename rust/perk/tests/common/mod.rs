@@ -46,11 +46,14 @@ pub struct Case {
     /// The masked witness and the proof that the verifier takes.
     pub t: Vec<u8>,
     pub a: Vec<u16>,
-    /// Outputs.
+    /// The serial that a package of them has.
+    pub serial: u32,
+    /// Outputs; that of a package has its length.
     pub t_out: Vec<u8>,
     pub polynomials: Vec<u16>,
     pub a_out: Vec<u16>,
     pub values: Vec<u16>,
+    pub package: Vec<u8>,
 }
 
 impl Case {
@@ -73,10 +76,12 @@ impl Case {
             masks: vec![],
             t: vec![1, 1],
             a: words(&[5]),
+            serial: 7,
             t_out: vec![BYTE; 2],
             polynomials: vec![WORD; 12 * 3 * 2],
             a_out: vec![WORD; 12],
             values: vec![WORD; 12 * 3],
+            package: vec![BYTE; 56],
         }
     }
 
@@ -88,6 +93,7 @@ impl Case {
             y: vec![5],
             positions: vec![1, 0],
             t: vec![0, 0],
+            package: vec![BYTE; 56 + 5],
             ..Case::key_a()
         }
     }
@@ -114,10 +120,12 @@ impl Case {
             masks: words(&[40]),
             t: vec![1, 1, 1, 1, 0, 1],
             a: words(&[8, 22]),
+            serial: 65535,
             t_out: vec![BYTE; 6],
             polynomials: vec![WORD; 12 * 4 * 3],
             a_out: vec![WORD; 12 * 2],
             values: vec![WORD; 12 * 4],
+            package: vec![BYTE; 88],
         }
     }
 
@@ -129,6 +137,7 @@ impl Case {
             h: vec![1, 1, 2],
             y: vec![6],
             a: words(&[8, 16]),
+            package: vec![BYTE; 88 + 5],
             ..Case::three()
         }
     }
@@ -159,10 +168,12 @@ impl Case {
             delta: vec![0; 12],
             masks: vec![0; 12 * (d - 1)],
             a: vec![0; 12 * d],
+            serial: 0,
             t_out: vec![BYTE; n * d],
             polynomials: vec![WORD; 12 * (n + m) * (d + 1)],
             a_out: vec![WORD; 12 * d],
             values: vec![WORD; 12 * (n + m)],
+            package: vec![BYTE; 22 + 2 * m * n + 2 * n + n * d + 24 * d],
         }
     }
 
@@ -220,9 +231,18 @@ impl Case {
         perk::verify(key, &self.t, &self.q, delta, masks, alpha, &self.a)
     }
 
+    pub fn write_package(&mut self) -> Result<usize, Refusal> {
+        let mut package = take(&mut self.package);
+        let (serial, t, a) = (self.serial, &self.t, &self.a);
+        let answer = perk::write_package(self.key(), serial, t, a, &mut package);
+        self.package = package;
+        answer
+    }
+
     /// Whether every output holds what it held before.
     pub fn nothing_written(&self) -> bool {
-        self.t_out.iter().all(|byte| *byte == BYTE)
+        let bytes = self.t_out.iter().chain(&self.package);
+        bytes.copied().all(|byte| byte == BYTE)
             && [&self.polynomials, &self.a_out, &self.values]
                 .iter()
                 .all(|output| output.iter().all(|word| *word == WORD))

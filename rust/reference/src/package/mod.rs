@@ -1,12 +1,12 @@
-//! The package and the check file: readers, and writers for test files.
+//! The package and the check file: readers, and the bytes of written ones.
 
 mod stated;
 mod written;
 
 pub use stated::{stated_of, tag, Kind, Stated, CHECK_FILE_TAGS, PACKAGE_TAGS, SERIAL_LENGTHS};
 pub use written::{
-    check_fields, field_of, head_start, index_of, join, package_fields, package_part, serial_bytes,
-    write_check_file, write_package, y_field, WrittenField,
+    check_fields, check_file_bytes, field_of, head_start, index_of, join, package_bytes,
+    package_fields, package_part, serial_bytes, y_field, WrittenField,
 };
 
 use crate::key::{bits, elements_of_f, elements_of_k, judge_rows, rows, Sizes};

@@ -1,4 +1,4 @@
-//! Fields as they are written, and writers for test files.
+//! Fields as they are written, and the bytes that they make.
 
 use super::tag;
 use crate::key::Key;
@@ -109,14 +109,14 @@ pub fn check_fields(q: &[u16], masks: &[u16], delta: &[u16], alpha: &[u16]) -> V
     ]
 }
 
-/// Writes a package by concatenation; nothing is judged.
-pub fn write_package(key: Key<'_>, serial: u32, t: &[u8], a: &[u16]) -> Vec<u8> {
+/// The bytes of a package, by concatenation; nothing is judged.
+pub fn package_bytes(key: Key<'_>, serial: u32, t: &[u8], a: &[u16]) -> Vec<u8> {
     join(&package_fields(key, serial, t, a))
 }
 
-/// Writes a check file by concatenation; nothing is judged.
+/// The bytes of a check file, by concatenation; nothing is judged.
 #[allow(clippy::too_many_arguments)]
-pub fn write_check_file(
+pub fn check_file_bytes(
     key: Key<'_>,
     serial: u32,
     t: &[u8],
@@ -126,7 +126,7 @@ pub fn write_check_file(
     delta: &[u16],
     alpha: &[u16],
 ) -> Vec<u8> {
-    let mut bytes = write_package(key, serial, t, a);
+    let mut bytes = package_bytes(key, serial, t, a);
     bytes.extend(join(&check_fields(q, masks, delta, alpha)));
     bytes
 }

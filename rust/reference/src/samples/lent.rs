@@ -1,6 +1,7 @@
 //! The slices of a sample, by their names.
 
-use super::Sample;
+use super::{Generator, Sample};
+use crate::key::Sizes;
 
 /// A slice of bytes or of words that can be lent.
 #[derive(Debug, PartialEq)]
@@ -53,6 +54,31 @@ impl Material {
     pub fn of(sample: Sample) -> Material {
         let (t, a) = sample.proof().expect("the positions solve the key");
         Material { sample, t, a }
+    }
+
+    /// What a package is written from: a random key, with a target or without,
+    /// and any serial, t and a. No slice beside those of a package has elements.
+    pub fn of_package(n: usize, m: usize, target: bool, generator: &mut Generator) -> Material {
+        let sizes = Sizes::judged(n, m).expect("sizes that are not refused");
+        let y = match target {
+            true => generator.target(m),
+            false => vec![0; m],
+        };
+        let sample = Sample {
+            n,
+            m,
+            d: sizes.d,
+            h: generator.matrix(n, m),
+            x: generator.words(n),
+            y,
+            serial: generator.serial(),
+            ..Sample::default()
+        };
+        Material {
+            sample,
+            t: generator.bits(sizes.bit_bytes()),
+            a: generator.words(sizes.proof_words()),
+        }
     }
 
     /// All slices with their names, those of the key first.

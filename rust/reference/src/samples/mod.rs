@@ -49,7 +49,7 @@ pub fn honest_masks(r: &[u16], s: &[u16], delta: &[u16]) -> Result<Vec<u16>, Ref
 }
 
 /// A key, a witness and all material, as slices that can be lent.
-#[derive(Clone, Debug)]
+#[derive(Clone, Debug, Default)]
 pub struct Sample {
     /// The size n.
     pub n: usize,

@@ -9,6 +9,7 @@ pub mod rank;
 mod serials;
 mod targets;
 mod text;
+pub mod write;
 
 pub use cases::{Case, Cases};
 
@@ -33,6 +34,7 @@ pub fn all() -> Vec<File> {
         files.push((text_name(n, m), text::text(&sample(n, m)).into_bytes()));
     }
     files.push((rank::NAME.to_string(), rank::text().into_bytes()));
+    files.push((write::NAME.to_string(), write::text().into_bytes()));
     files.extend(Cases::all().files());
     let cases = field_cases::Cases::all();
     files.push(("field_cases/stdin".to_string(), cases.stdin()));

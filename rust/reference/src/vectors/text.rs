@@ -12,7 +12,7 @@ pub fn small_elements(words: &[u16]) -> String {
 }
 
 /// Elements of K, 48 hexadecimal digits each: twelve words, coordinate 0 first.
-fn large_elements(words: &[u16]) -> String {
+pub fn large_elements(words: &[u16]) -> String {
     words
         .chunks(COORDINATES)
         .map(|element| {
@@ -23,7 +23,7 @@ fn large_elements(words: &[u16]) -> String {
 }
 
 /// Bytes as decimal numbers.
-fn decimal(bytes: &[u8]) -> String {
+pub fn decimal(bytes: &[u8]) -> String {
     bytes.iter().map(|byte| format!(" {byte}")).collect()
 }
 
@@ -37,7 +37,7 @@ pub fn row_lines<T>(name: &str, list: &[T], width: usize, show: fn(&[T]) -> Stri
 }
 
 /// A file in hexadecimal, 64 bytes a line, after the name.
-fn file_lines(name: &str, bytes: &[u8]) -> String {
+pub fn file_lines(name: &str, bytes: &[u8]) -> String {
     bytes
         .chunks(64)
         .map(|part| {

@@ -1,6 +1,6 @@
 //! The twelve examples of the specification, its edges, and the file of key A.
 
-use crate::{constraints_of, element, large, tops, values_of, verdict_of};
+use crate::{bytes_of, constraints_of, element, large, tops, values_of, verdict_of};
 use reference::constraint::z;
 use reference::key::{digits, number_of_digits};
 use reference::large_field::K;
@@ -209,19 +209,12 @@ fn file_of_key_a_with_a_target() {
     assert_eq!(perkcheck_line(&zero), "refused 14\n");
 }
 
-/// The file of key A as the specification writes it, with the zero bytes of "0..".
+/// The file of key A as the specification writes it.
 fn key_a_of_the_specification() -> Vec<u8> {
     let text = "01 0002 0201  02 0004 0002 0001  03 0004 0001 0002  05 0002 0007 \
                 06 0002 0101  07 0018 0005 0..  11 0030 0003 0.. 0004 0..  12 0000 \
                 13 0018 0002 0..  14 0048 0001 0.. 0002 0.. 0001 0..";
-    let zeros = "00".repeat(22);
-    let digits: String = text
-        .split_whitespace()
-        .map(|word| if word == "0.." { zeros.as_str() } else { word })
-        .collect();
-    (0..digits.len() / 2)
-        .map(|i| u8::from_str_radix(&digits[2 * i..2 * i + 2], 16).unwrap())
-        .collect()
+    bytes_of(text)
 }
 
 /// The fields of that file.
@@ -334,7 +327,7 @@ fn coefficients_of_one_row() {
 #[test]
 fn numbers_of_the_refusals() {
     let numbers = Refusal::ALL.map(Refusal::number);
-    let stated = [1, 2, 3, 4, 5, 6, 7, 8, 9, 10, 11, 12, 14, 15, 16, 19];
+    let stated = [1, 2, 3, 4, 5, 6, 7, 8, 9, 10, 11, 12, 13, 14, 15, 16, 19];
     assert_eq!(numbers, stated);
 }
 

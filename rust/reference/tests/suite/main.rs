@@ -10,6 +10,7 @@ mod rank;
 mod readers;
 mod refusals;
 mod vectors;
+mod writer;
 
 use reference::key::elements_of_k;
 use reference::large_field::K;
@@ -24,6 +25,19 @@ fn element(word: u16) -> Vec<u16> {
 /// Words as elements of K.
 fn large(words: &[u16]) -> Vec<K> {
     elements_of_k(words).expect("coordinates up to 2047")
+}
+
+/// Bytes in hexadecimal as the specification writes them, "0.." being 22 zero
+/// bytes.
+fn bytes_of(text: &str) -> Vec<u8> {
+    let zeros = "00".repeat(22);
+    let words = text.split_whitespace();
+    let digits: String = words
+        .map(|word| if word == "0.." { &zeros } else { word })
+        .collect();
+    (0..digits.len() / 2)
+        .map(|i| u8::from_str_radix(&digits[2 * i..2 * i + 2], 16).expect("two digits"))
+        .collect()
 }
 
 /// What the entry constraints writes: t, and each polynomial's coefficients.

@@ -1,14 +1,15 @@
 //! The readers, the field of a package, and perkcheck's line.
 
 use reference::package::{
-    check_file_field, field_of, head_start, index_of, join, package_of, package_part, serial_bytes,
-    tag, words, y_field, WrittenField, CHECK_FILE_TAGS, HEAD, PACKAGE_TAGS,
+    check_file_bytes, check_file_field, field_of, head_start, index_of, join, package_bytes,
+    package_of, package_part, serial_bytes, tag, words, y_field, WrittenField, CHECK_FILE_TAGS,
+    HEAD, PACKAGE_TAGS,
 };
 use reference::samples::{independent, Generator, Leaning, Sample};
 use reference::vectors::Cases;
 use reference::{
     check, field, field_range, judge_check_file, judge_package, perkcheck_line, read_check_file,
-    read_package, write_check_file, write_package, Contents, Refusal, Refused, Verdict,
+    read_package, Contents, Refusal, Refused, Verdict,
 };
 use std::collections::{BTreeMap, BTreeSet};
 
@@ -271,9 +272,9 @@ fn every_written_file_is_read_back() {
         let (t, a) = sample.proof().expect("the sample is solved");
         let Sample { n, m, serial, .. } = sample;
         let contents = Contents { n, m, serial };
-        let package = write_package(sample.key(), serial, &t, &a);
+        let package = package_bytes(sample.key(), serial, &t, &a);
         assert_eq!(read_package(&package), Ok(contents));
-        let file = write_check_file(
+        let file = check_file_bytes(
             sample.key(),
             serial,
             &t,

@@ -2,6 +2,7 @@
 //! their order, and outputs that stay as they were.
 
 use reference::large_field::COORDINATES;
+use reference::package::package_bytes;
 use reference::samples::{independent, Generator, Leaning, Lent, Material, Sample};
 use reference::Refusal;
 use std::collections::BTreeSet;
@@ -14,7 +15,12 @@ struct Outputs {
     a: Vec<u16>,
     values: Vec<u16>,
     matrix: Vec<u16>,
+    package: Vec<u8>,
 }
+
+/// The output that has no stated length: a shorter one than the package is
+/// refused, and a longer one is not.
+const PACKAGE: &str = "package_out";
 
 impl Outputs {
     /// The slices with their names.
@@ -25,6 +31,7 @@ impl Outputs {
             ("a_out", Lent::Words(&mut self.a)),
             ("values_out", Lent::Words(&mut self.values)),
             ("matrix_out", Lent::Words(&mut self.matrix)),
+            (PACKAGE, Lent::Bytes(&mut self.package)),
         ]
     }
 }
@@ -41,6 +48,9 @@ impl Call {
         let sample = Sample::solving(n, m, &mut Generator::new(30));
         let sizes = sample.key().sizes().expect("sizes that are not refused");
         let words = |slice: &str| vec![0xabcd; sizes.length_of(slice)];
+        let inputs = Material::of(sample);
+        let Material { sample, t, a } = &inputs;
+        let package = package_bytes(sample.key(), sample.serial, t, a);
         Call {
             outputs: Outputs {
                 t: vec![0xee; sizes.length_of("t")],
@@ -48,8 +58,9 @@ impl Call {
                 a: words("a"),
                 values: words("values"),
                 matrix: words("matrix"),
+                package: vec![0xee; package.len()],
             },
-            inputs: Material::of(sample),
+            inputs,
         }
     }
 
@@ -95,7 +106,7 @@ struct Entry {
 /// The slices of the key.
 const KEY: [&str; 3] = ["h", "x", "y"];
 
-const ENTRIES: [Entry; 5] = [
+const ENTRIES: [Entry; 6] = [
     Entry {
         name: "constraints",
         key: &KEY,
@@ -152,6 +163,18 @@ const ENTRIES: [Entry; 5] = [
         run: |Call { inputs, outputs }| {
             let Sample { n, m, h, .. } = &inputs.sample;
             reference::rank(*n, *m, h, &mut outputs.matrix).map(|_| ())
+        },
+    },
+    Entry {
+        name: "write_package",
+        key: &KEY,
+        inputs: &["t", "a"],
+        outputs: &[PACKAGE],
+        order: &[1, 2, 3, 4, 15, 5, 6, 13],
+        run: |Call { inputs, outputs }| {
+            let Material { sample, t, a } = inputs;
+            let out = &mut outputs.package;
+            reference::write_package(sample.key(), sample.serial, t, a, out).map(|_| ())
         },
     },
 ];
@@ -211,6 +234,15 @@ fn length_faults(name: &'static str, length: usize) -> Vec<Fault> {
         Fault::new(3, label, move |call| call.lent(name).set_length(other))
     };
     lengths.into_iter().map(fault).collect()
+}
+
+/// Lengths of the output that are shorter than the package.
+fn room_faults(length: usize) -> Vec<Fault> {
+    let fault = |other| {
+        let label = format!("the output has length {other}");
+        Fault::new(13, label, move |call| call.lent(PACKAGE).set_length(other))
+    };
+    [length - 1, length / 2, 1, 0].map(fault).into()
 }
 
 /// Elements of a slice that are too large, at its first and its last place.
@@ -286,7 +318,10 @@ fn faults(entry: &Entry, call: &Call) -> Vec<Fault> {
     let mut list = size_faults(n);
     for name in entry.slices() {
         let length = call.clone().lent(name).length();
-        list.extend(length_faults(name, length));
+        list.extend(match name {
+            PACKAGE => room_faults(length),
+            _ => length_faults(name, length),
+        });
         if !entry.outputs.contains(&name) {
             list.extend(value_faults(name, length, d));
         }

@@ -5,8 +5,8 @@ use crate::large;
 use reference::large_field::COORDINATES;
 use reference::package::{tag, words, CHECK_FILE_TAGS};
 use reference::samples::{honest_masks, honest_q, independent, joined_rows, solved, Sample};
-use reference::vectors::{all, rank, text_name, Cases, SIZES, TARGETS};
-use reference::{judge_check_file, perkcheck_line, Refusal, Refused};
+use reference::vectors::{all, rank, text_name, write, Cases, SIZES, TARGETS};
+use reference::{judge_check_file, perkcheck_line, read_package, Contents, Key, Refusal, Refused};
 use std::collections::BTreeMap;
 use std::fs;
 use std::path::{Path, PathBuf};
@@ -163,10 +163,11 @@ impl Text {
     }
 }
 
-/// The parts of the file `rank.txt`, each from a line with one of these names to
-/// the next one.
-fn parts_of_rank(heads: [&str; 2]) -> Vec<(String, Text)> {
-    let text = stored_text(rank::NAME);
+/// The parts of a file, each from a line `case` or `refused` to the next one, with
+/// that line.
+fn parts(file: &str) -> Vec<(String, Text)> {
+    let heads = ["case", "refused"];
+    let text = stored_text(file);
     let mut parts: Vec<String> = Vec::new();
     for line in text.lines() {
         if heads
@@ -190,7 +191,7 @@ fn the_file_of_ranks_holds_the_answers() {
     let (mut cases, mut short) = (0, 0);
     let mut refused: BTreeMap<u32, usize> = BTreeMap::new();
     let mut names = Vec::new();
-    for (name, text) in parts_of_rank(["case", "refused"]) {
+    for (name, text) in parts(rank::NAME) {
         let (n, m) = (text.number("n"), text.number("m"));
         let before = |length: usize| vec![0xabcd; length];
         if name.starts_with("case ") {
@@ -223,6 +224,116 @@ fn the_file_of_ranks_holds_the_answers() {
     );
     assert!(refused.keys().eq(&[1, 2, 3, 4]), "{refused:?}");
     assert!(refused.values().all(|&count| count >= 4), "{refused:?}");
+}
+
+/// The words or bytes of a slice of a refused call, as many as its length says.
+fn lent(text: &Text, name: &str, unit: &str) -> Vec<String> {
+    let values = text.lines(&format!("{name}_{unit}")).concat();
+    assert_eq!(values.len(), text.number(&format!("{name}_length")));
+    values
+}
+
+/// What a part of the file `write.txt` is written from: H, x, y, t and a.
+struct Written {
+    lists: [Vec<u16>; 4],
+    t: Vec<u8>,
+}
+
+impl Written {
+    /// Of a package.
+    fn of_case(text: &Text) -> Written {
+        let words = |name| Text::words(&text.lines(name).concat());
+        Written {
+            lists: [
+                Text::words(&text.rows("h")),
+                words("x"),
+                words("y"),
+                Text::words(&text.rows("a")),
+            ],
+            t: Text::bytes(&text.rows("t")),
+        }
+    }
+
+    /// Of a refused call.
+    fn of_refused(text: &Text) -> Written {
+        let words = |name| Text::words(&lent(text, name, "words"));
+        Written {
+            lists: ["h", "x", "y", "a"].map(words),
+            t: Text::bytes(&lent(text, "t", "bytes")),
+        }
+    }
+
+    /// What the entry answers for an output of this length, and the output
+    /// afterwards.
+    fn answer(&self, text: &Text, length: usize) -> (Result<usize, u32>, Vec<u8>) {
+        let [h, x, y, a] = &self.lists;
+        let [n, m] = ["n", "m"].map(|name| text.number(name));
+        let serial = text.number("serial") as u32;
+        let mut out = vec![0xab; length];
+        let answer = reference::write_package(Key { n, m, h, x, y }, serial, &self.t, a, &mut out);
+        (answer.map_err(Refusal::number), out)
+    }
+}
+
+/// Compares a package with what the entry writes to outputs of its length, of
+/// more and of less.
+fn compare_package(text: &Text, name: &str) -> Vec<u8> {
+    let written = Written::of_case(text);
+    let package = text.file("package");
+    let length = text.number("length");
+    assert_eq!(package.len(), length, "{name}");
+    for more in [0, 1, 40] {
+        let mut expected = package.clone();
+        expected.resize(length + more, 0xab);
+        let outcome = written.answer(text, length + more);
+        assert_eq!(outcome, (Ok(length), expected), "{name}");
+    }
+    let short = text.number("short_answer") as u32;
+    let outcome = written.answer(text, length - 1);
+    assert_eq!(outcome, (Err(short), vec![0xab; length - 1]), "{name}");
+    assert_eq!(short, 13, "{name}");
+    let [n, m] = ["n", "m"].map(|name| text.number(name));
+    let serial = text.number("serial") as u32;
+    let contents = Contents { n, m, serial };
+    assert_eq!(read_package(&package), Ok(contents), "{name}");
+    package
+}
+
+#[test]
+fn the_file_of_packages_holds_the_answers() {
+    let mut packages: BTreeMap<String, Vec<u8>> = BTreeMap::new();
+    let mut refused: BTreeMap<u32, usize> = BTreeMap::new();
+    let mut forms: BTreeMap<(bool, bool), usize> = BTreeMap::new();
+    let mut names = Vec::new();
+    for (name, text) in parts(write::NAME) {
+        if let Some(short_name) = name.strip_prefix("case ") {
+            let package = compare_package(&text, &name);
+            let target = content(&package, tag::Y).is_some();
+            let long_serial =
+                content(&package, tag::SERIAL).is_some_and(|serial| serial.len() == 4);
+            *forms.entry((target, long_serial)).or_default() += 1;
+            packages.insert(short_name.to_string(), package);
+        } else {
+            let length = text.number("out_length");
+            let number = text.number("answer") as u32;
+            let outcome = Written::of_refused(&text).answer(&text, length);
+            assert_eq!(outcome, (Err(number), vec![0xab; length]), "{name}");
+            *refused.entry(number).or_default() += 1;
+        }
+        assert!(!names.contains(&name), "{name} is there twice");
+        names.push(name);
+    }
+    assert!(
+        refused.keys().eq(&[1, 2, 3, 4, 5, 6, 13, 15]),
+        "{refused:?}"
+    );
+    assert!(refused.values().all(|&count| count >= 4), "{refused:?}");
+    assert!(packages.len() >= 50, "{} packages", packages.len());
+    assert_eq!(forms.len(), 4, "{forms:?}");
+    assert!(forms.values().all(|&count| count >= 8), "{forms:?}");
+    let key_a = fs::read(directory().join("key_a.check")).expect("a readable file");
+    assert_eq!(packages["key_a"], key_a[..56]);
+    assert_eq!(packages["n64_m63_target"].len(), 8873);
 }
 
 /// The file after a change: a place, the byte there and another one.

@@ -1,0 +1,21 @@
+-- Answers that come with a number, as the C interface gives them.
+use mathlib.Core.List.{List}
+use Prim.Native.Nat.{ℕ}
+use Rattle.rank.specs.declared.Ranked.{Ranked}
+use Rattle.rank.specs.declared.Ranked.the-variants as ranked
+use Rattle.writer.specs.declared.Written.{Written}
+use Rattle.writer.specs.declared.Written.the-variants as written
+
+-- the number of an answer, and the rank; on a refusal what was there before
+abbrev pub rankOr : Ranked → ℕ → ℕ × ℕ
+rankOr (ranked.Rank r) old = (0, r)
+rankOr (ranked.Refused q) old = (q .number, old)
+
+-- the same with the length
+abbrev pub lengthOr : Written → ℕ → ℕ × ℕ
+lengthOr (written.Length n) old = (0, n)
+lengthOr (written.Refused q) old = (q .number, old)
+
+-- of an outcome: the number, and what is left in the output and where the rank or the length goes
+abbrev pub answered : {A : Type 0} → (A → ℕ → ℕ × ℕ) → A × List ℕ → ℕ → ℕ × (List ℕ × ℕ)
+answered or o old = (or (o .0) old .0, (o .1, or (o .0) old .1))

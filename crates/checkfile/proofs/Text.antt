@@ -7,7 +7,7 @@ use mathlib.Core.Bool.{Bool, true, false, cond}
 use lib.Dec.{ltb}
 use borrow.Author.Tests.{lt-ltb, le-ltb}
 use lib.ListN.{length, take, drop, set, length-append}
-use lib.Seq.{getD-append-seam, drop-append-add, take-at, length-take-le, drop-drop}
+use lib.Seq.{getD-append-seam, take-at, length-take-le}
 use Rattle.lists.specs.Words.{put}
 use Rattle.lists.proofs.Words.{put-pasted}
 use Rattle.copying.proofs.Filled.{paste-more, Stands, stands-next, first-stands}

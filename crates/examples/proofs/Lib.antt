@@ -5,3 +5,4 @@ pub mod Hold
 pub mod Readings
 pub mod Accepted
 pub mod Target
+pub mod Packages

@@ -1,7 +1,10 @@
 // The starred examples of the specification as statements about the definitions, and callers that rely on the contracts of the
 // entries and on laws of their definitions.
 ghost use mathlib.Core.Path.{_≡_};
-ghost use Prim.Native.Nat.{ℕ, _+_, _<_};
+ghost use mathlib.Core.List.{_++_};
+ghost use Prim.Native.Nat.{ℕ, _+_, _≤_, _<_};
+ghost use lib.ListN.{length, take, drop};
+ghost use Rattle.lists.specs.Words.{part};
 ghost use Rattle.refusal.specs.declared.Answer.the-variants.{Done};
 ghost use Rattle.refusal.specs.declared.Verdict.the-variants.{Accepted};
 ghost use Rattle.field.specs.Level.{FIRST, levelAt};
@@ -9,9 +12,22 @@ ghost use Rattle.key.specs.Key.{keySlices};
 ghost use Rattle.constraints.specs.Slices.{elementAt, systemOf};
 ghost use Rattle.constraints.specs.Truth.{HonestNumbers, evaluated};
 ghost use Rattle.verifier.specs.Complete.{HonestVerifier};
+ghost use Rattle.package.specs.declared.Contents.{Contents};
+ghost use Rattle.package.specs.declared.Read.the-variants.{Fields};
+ghost use Rattle.package.specs.Reading.{packageReader, reading};
+ghost use Rattle.package.specs.Written.{contentOf, packageForm};
+ghost use Rattle.package.specs.Said.{keyDataOf, groupOf};
+ghost use Rattle.writer.specs.declared.Written.the-variants.{Length};
+ghost use Rattle.writer.specs.Entry.{dataOf, writeOutcome};
+use elimination::MATRIX;
 use key::Key;
+use layout::Part;
+use layout::Row;
+use package::Contents;
+use package::Read;
 use refusal::Answer;
 use refusal::Verdict;
+use writer::Written;
 
 pub struct Answers {
     pub constraints: Answer,
@@ -73,5 +89,86 @@ pub fn completeness(
     Judgement {
         prove: proved,
         verify: judged,
+    }
+}
+
+pub struct Stored {
+    pub written: Written,
+    pub read: Read,
+    pub field: Part,
+}
+
+// A package is written and read back: wherever a length is answered, the reader answers for so many bytes the n, m and serial that were lent, and
+// the part that it finds for a tag holds the content of that field.
+pub fn read_back(
+    key: Key,
+    h: &[u16],
+    x: &[u16],
+    y: &[u16],
+    serial: u32,
+    t: &[u8],
+    a: &[u16],
+    tag: u8,
+    out: &mut [u8],
+) -> Stored
+    ensures { λ r. ⌜ ((k : ℕ) → r .written ≡ Length k → (r .read ≡ Fields (record { n = key .n; m = key .m; serial = serial })) × (part (r .field .start) (r .field .len) (take k (now (out .exit))) ≡ contentOf tag (packageForm (levelAt FIRST) .fields (dataOf key (keySlices (now (h .entry)) (now (x .entry)) (now (y .entry))) serial (now (t .entry)) (now (a .entry)))))) ⌝ }
+{
+    match writer::write_package(key, h, x, y, serial, t, a, out) {
+        Written::Refused(refusal) => Stored {
+            written: Written::Refused(refusal),
+            read: Read::Refused(refusal),
+            field: Part { start: 0, len: 0 },
+        },
+        Written::Length(len) => Stored {
+            written: Written::Length(len),
+            read: package::read_package(&out[..len]),
+            field: package::field_part(&out[..len], tag),
+        },
+    }
+}
+
+// Words of room for x, y and a proof, at n = 64 and m = 63.
+const VECTOR: usize = 64;
+
+const TARGET: usize = 63;
+
+const PROOF: usize = 72;
+
+// The fields of an accepted package, lent to the writer. Where field 04 is absent the room for y stays zero.
+fn rewritten(bytes: &[u8], contents: Contents, out: &mut [u8]) -> Written
+    requires { ⌜ reading (packageReader (levelAt FIRST)) (now bytes) ≡ Fields contents ⌝ }
+    ensures { λ r. ⌜ (r, now (out .exit)) ≡ writeOutcome (levelAt FIRST) (keyDataOf (packageForm (levelAt FIRST)) (now (bytes .entry)) .sizes) (keyDataOf (packageForm (levelAt FIRST)) (now (bytes .entry)) .slices) (groupOf (packageForm (levelAt FIRST)) (now (bytes .entry)) .serial) (groupOf (packageForm (levelAt FIRST)) (now (bytes .entry)) .t) (groupOf (packageForm (levelAt FIRST)) (now (bytes .entry)) .a) (now (out .entry)) ⌝ }
+{
+    let mut h = [0u16; MATRIX];
+    let h_len = copying::words_into(package::field(bytes, Row::H), &mut h);
+    let mut x = [0u16; VECTOR];
+    let x_len = copying::words_into(package::field(bytes, Row::X), &mut x);
+    let mut y = [0u16; TARGET];
+    copying::words_into(package::field(bytes, Row::Y), &mut y);
+    let mut a = [0u16; PROOF];
+    let a_len = copying::words_into(package::field(bytes, Row::A), &mut a);
+    let t = package::field(bytes, Row::T);
+    let n = contents.n;
+    let m = contents.m;
+    let serial = contents.serial;
+    writer::write_package(
+        Key { n, m },
+        &h[..h_len],
+        &x[..x_len],
+        &y[..m],
+        serial,
+        t,
+        &a[..a_len],
+        out,
+    )
+}
+
+// A package that the reader accepts is written again from its own fields: into an output with room for it go those very bytes.
+pub fn written_again(bytes: &[u8], out: &mut [u8]) -> Written
+    ensures { λ r. ⌜ ((c : Contents) → reading (packageReader (levelAt FIRST)) (now (bytes .entry)) ≡ Fields c → length (now (bytes .entry)) ≤ length (now (out .entry)) → (r ≡ Length (length (now (bytes .entry)))) × (now (out .exit) ≡ now (bytes .entry) ++ drop (length (now (bytes .entry))) (now (out .entry)))) ⌝ }
+{
+    match package::read_package(bytes) {
+        Read::Refused(refusal) => Written::Refused(refusal),
+        Read::Fields(contents) => rewritten(bytes, contents, out),
     }
 }

@@ -10,8 +10,7 @@ use Rattle.lists.specs.Words.{put}
 use Rattle.copying.specs.Words.{words}
 use Rattle.field.specs.Level.{FIRST, levelAt}
 use Rattle.field.proofs.Fields.{first-most, first-narrow}
-use Rattle.key.specs.declared.Key.{Key}
-use Rattle.key.specs.Key.{Sized, degree}
+use Rattle.key.specs.Key.{degree}
 use Rattle.key.proofs.Sized.{first-matrix, degree-lt}
 use Rattle.layout.specs.Tests.{keyOf}
 use Rattle.package.specs.Written.{Form, ValidKey, ValidGroup, handed}

@@ -1,7 +1,7 @@
 -- The writer undoes the reader.
-use mathlib.Core.Path.{_≡_, refl, sym, ap, ap₂, _∙_}
-use mathlib.Core.List.{List, [], _∷_, _++_}
-use Prim.Native.Nat.{ℕ, _≤_}
+use mathlib.Core.Path.{_≡_, refl, sym, ap, _∙_}
+use mathlib.Core.List.{[], _∷_, _++_}
+use Prim.Native.Nat.{_≤_}
 use native.Mathlib.Omega.{arith}
 use borrow.Author.Tests.{le-ltb}
 use lib.ListN.{length, drop}
@@ -11,16 +11,14 @@ use Rattle.refusal.specs.Answer.{firstOf, written as kept}
 use Rattle.refusal.specs.declared.Answer.the-variants.{Done}
 use Rattle.refusal.proofs.Answers.{after-done}
 use Rattle.field.specs.Level.{FIRST, levelAt}
-use Rattle.key.specs.declared.Key.{Key}
 use Rattle.key.specs.declared.Code.the-variants.{Column}
-use Rattle.key.specs.Key.{KeySlices, lengths, below, withins}
+use Rattle.key.specs.Key.{lengths, below, withins}
 use Rattle.key.proofs.Checked.{checked-done}
 use Rattle.package.specs.Written.{KeyData, Group, packageForm, written}
 use Rattle.package.proofs.Opening.{valid-stands}
 use Rattle.package.proofs.Said.{packageData, package-said}
-use Rattle.writer.specs.declared.Written.{Written}
 use Rattle.writer.specs.declared.Written.the-variants.{Length}
-use Rattle.writer.specs.Entry.{lengthAs, writeLent, roomRow, packageBytes, writeChecks, writeRows, writeOutcome}
+use Rattle.writer.specs.Entry.{lengthAs, writeLent, roomRow, writeChecks, writeRows, writeOutcome}
 use Rattle.writer.specs.Laws.{WritesBack}
 
 -- no check refuses data within the limits

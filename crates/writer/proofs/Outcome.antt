@@ -1,6 +1,6 @@
 -- What holds where the writer refuses nothing, and what its answer tells.
-use mathlib.Core.Path.{_≡_, refl, sym, ap, ap₂, _∙_, subst}
-use mathlib.Core.Bool.{Bool, true, false, and-eq-true-iff}
+use mathlib.Core.Path.{_≡_, refl, sym, ap, ap₂, _∙_}
+use mathlib.Core.Bool.{Bool, true, and-eq-true-iff}
 use mathlib.Core.List.{List, [], _∷_, _++_}
 use Prim.Native.Nat.{ℕ, _+_, _*_, _≤_, _<_}
 use native.Mathlib.Omega.{arith}
@@ -8,9 +8,8 @@ use borrow.Author.Tests.{lt-ltb, le-ltb, ltb-false}
 use lib.Dec.{ltb}
 use lib.ListN.{length, take, drop, length-append}
 use lib.Seq.{take-at}
-use Rattle.lists.specs.Words.{put}
 use Rattle.lists.specs.Lent.{long}
-use Rattle.lists.proofs.Lent.{Long, each-long}
+use Rattle.lists.proofs.Lent.{each-long}
 use Rattle.copying.proofs.Filled.{Stands, first-stands}
 use Rattle.refusal.specs.Answer.{refusal, firstOf, written as kept}
 use Rattle.refusal.specs.declared.Answer.{Answer}
@@ -23,7 +22,7 @@ use Rattle.field.specs.Word.{within}
 use Rattle.elimination.proofs.Leaning.{leaning}
 use Rattle.key.specs.declared.Key.{Key}
 use Rattle.key.specs.declared.Code.the-variants.{Column}
-use Rattle.key.specs.Key.{KeySlices, Sized, lengths, below, withins}
+use Rattle.key.specs.Key.{KeySlices, lengths, below, withins}
 use Rattle.key.proofs.Checked.{Checked, checked}
 use Rattle.key.proofs.Leans.{leans}
 use Rattle.layout.proofs.Rows.{none-append, none-done}

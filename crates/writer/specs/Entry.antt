@@ -35,7 +35,7 @@ dataOf key lent serial t a = (record { sizes = key; slices = lent }, record { se
 abbrev pub writeLent : Lengths → KeySlices → (t a : List ℕ) → List (List ℕ × ℕ)
 writeLent len lent t a = keyLent len lent ++ ((t, len .bits) ∷ (a, len .proof) ∷ [])
 
--- 13 "when the output slice is shorter than the package", of so many bytes
+-- 13 "when the output slice is shorter than the package": fewer bytes than are needed
 abbrev pub roomRow : (needed room : ℕ) → List (Bool × ℕ)
 roomRow needed room = (ltb room needed, 13) ∷ []
 

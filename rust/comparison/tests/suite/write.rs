@@ -1,9 +1,7 @@
 //! The groups of write package, packages that are read back and packages that are
 //! written again find wrong writers. Each stands in the place of the library.
 
-mod common;
-
-use common::{passes, with_library};
+use crate::common::{passes, with_library};
 use comparison::case::{Call, Entry, Group, Taken};
 use comparison::entries::faults::{one_fault, two_faults};
 use comparison::entries::files::fields::{serial_in_four, set_serial, set_target, walked};

@@ -2,9 +2,7 @@
 //! value in eight. That they pass without a fault is shown for values; for the
 //! others it is the comparison itself that shows it.
 
-mod common;
-
-use common::{passes, with_library};
+use crate::common::{passes, with_library};
 use comparison::case::{Call, Group, Taken};
 use comparison::entries::constraints::{Constraints, CONSTRAINTS};
 use comparison::entries::prove::{Prove, PROVE};

@@ -2,9 +2,7 @@
 //! others, and that decide in another order. Each stands in the place of the
 //! library.
 
-mod common;
-
-use common::passes;
+use crate::common::passes;
 use comparison::case::{Call, Entry, Group, Taken};
 use comparison::entries::files::fields::{both_forms, content_mut};
 use comparison::entries::files::{case, groups, leaning as files, rows_of_bytes, Reader, BYTES};

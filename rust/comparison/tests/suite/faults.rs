@@ -1,9 +1,7 @@
 //! The comparison finds each kind of fault: entries with one deliberate fault
 //! are run in the place of the library.
 
-mod common;
-
-use common::{case, entry, passes, right, ALL, INPUT, OUTPUT};
+use crate::common::{case, entry, passes, right, ALL, INPUT, OUTPUT};
 use comparison::case::{Call, Case, Entry, Expected, Group, Stated, Taken};
 use comparison::lent::Lent;
 use comparison::named::Named;

@@ -1,9 +1,7 @@
 //! What must be reached: every answer, least numbers of cases, the cells of a
 //! table, and rows of H that do not depend on each other.
 
-mod common;
-
-use common::{case, entry, passes, right, ALL, INPUT};
+use crate::common::{case, entry, passes, right, ALL, INPUT};
 use comparison::case::{decided, Call, Case, Entry, Group, Least, Rows, Table};
 use comparison::entries::check;
 use comparison::entries::files::damage::harmless;

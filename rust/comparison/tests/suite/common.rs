@@ -1,5 +1,4 @@
 //! An entry that copies one byte, to be run with faults.
-#![allow(dead_code)]
 
 use comparison::case::{Call, Case, Entry, Group, Taken};
 use comparison::lent::Lent;

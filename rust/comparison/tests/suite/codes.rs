@@ -2,9 +2,7 @@
 //! columns for spare codes, and that decide in another order. Each stands in the
 //! place of the library.
 
-mod common;
-
-use common::{passes, with_library};
+use crate::common::{passes, with_library};
 use comparison::case::{Call, Entry, Group, Taken};
 use comparison::entries::codes::{ONE_SPARE, ONE_TOO_LARGE, TAKEN};
 use comparison::entries::constraints::CONSTRAINTS;

@@ -1,9 +1,7 @@
 //! The groups of rank find other ways to eliminate, and other ways to refuse.
 //! Each stands in the place of the library.
 
-mod common;
-
-use common::passes;
+use crate::common::passes;
 use comparison::case::{Call, Entry, Taken};
 use comparison::entries::rank::{OUT, RANK};
 use comparison::lent::Lent;

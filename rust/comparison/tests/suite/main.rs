@@ -1,0 +1,13 @@
+//! The comparison finds wrong programs and altered vectors: tests of its groups, with functions in the place of the
+//! library.
+
+mod codes;
+mod common;
+mod faults;
+mod groups;
+mod largest;
+mod leaning;
+mod program;
+mod rank;
+mod vectors;
+mod write;

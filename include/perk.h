@@ -14,11 +14,12 @@
  *
  *     if (perk_verify(..) == PERK_ACCEPTED) ..       and not: if (perk_verify(..)) ..
  *
- * Any other number is a refusal, 1 to 16 or 19, and then every output holds what it held before. Refusals are tried in the
- * order in which a function lists them; the first that applies is the result. Sizes and lengths are decided before any
- * slice is read, so that a length in bytes for one in words is refused with 3; this is tested, and not part of the proof.
- * Files have no stated length: the readers take any number of bytes, and the output of perk_write_package may be longer
- * than the package, and is refused with 13, after everything else, where it is shorter.
+ * Any other number is a refusal, 1 to 16 or 19 to 22, and then every output holds what it held before. Refusals are tried
+ * in the order in which a function lists them; the first that applies is the result. Sizes and lengths are decided before
+ * any slice is read, so that a length in bytes for one in words is refused with 3; this is tested, and not part of the
+ * proof. Files have no stated length: the readers and perk_join_bundles take any number of bytes, and the output of
+ * perk_write_package and of perk_join_bundles may be longer than what is written, and is refused with 13, after everything
+ * else, where it is shorter.
  *
  * Numbers. An element of F is a number 0 to 2047 whose bit i is the coefficient of z^i, with z^11 = z^2 + 1. An element
  * of K is PERK_ELEMENT_WORDS = 12 words, coordinate 0 first, each an element of F, with Y^12 = Y^3 + 1; several elements
@@ -58,9 +59,9 @@
 #include <stddef.h>
 #include <stdint.h>
 
-#define PERK_VERSION "0.6.0"
+#define PERK_VERSION "0.7.0"
 #define PERK_VERSION_MAJOR 0
-#define PERK_VERSION_MINOR 6
+#define PERK_VERSION_MINOR 7
 #define PERK_VERSION_PATCH 0
 
 /* results */
@@ -86,6 +87,9 @@
 #define PERK_DEPENDENT_ROWS 15 /* some coefficients from F, not all zero, combine the rows of H to zero */
 #define PERK_SPARE_CODE 16   /* a position is a spare code, n to 2^d - 1, which names no column; none is 2^d or more */
 #define PERK_LONG_SERIAL 19  /* a serial of four bytes is below 65536, so that it fits two */
+#define PERK_SERIAL_ORDER 20 /* a group's serial is not above the one before it */
+#define PERK_OTHER_KEY 21    /* the two bundles have different key fields */
+#define PERK_GROUPS_DIFFER 22 /* two groups with one serial differ in t or a */
 
 /* d, for n from 2 to 64; a constant expression where n is one */
 #define PERK_DIGITS(n) ((n) > 32 ? 6 : (n) > 16 ? 5 : (n) > 8 ? 4 : (n) > 4 ? 3 : (n) > 2 ? 2 : 1)
@@ -124,6 +128,9 @@
 #define PERK_CHECK_FILE_BYTES(n, m, target, serial) \
     (PERK_PACKAGE_BYTES(n, m, target, serial) + 36 + 24 * (n) * PERK_DIGITS(n) + 24 * (PERK_DIGITS(n) - 1) + \
      24 * ((n) + (m)))
+/* the parts of a package, and of a bundle: the key's fields, 01 to 04, and a group, the fields 05 to 07 with this serial */
+#define PERK_KEY_BYTES(n, m, target) (11 + 2 * (m) * (n) + 2 * (n) + ((target) ? 3 + 2 * (m) : 0))
+#define PERK_GROUP_BYTES(n, serial) (9 + PERK_SERIAL_BYTES(serial) + (n) * PERK_DIGITS(n) + 24 * PERK_DIGITS(n))
 #define PERK_LARGEST_PACKAGE_BYTES 8873
 #define PERK_LARGEST_CHECK_FILE_BYTES 21293
 
@@ -378,6 +385,73 @@ uint32_t perk_write_package(size_t n, size_t m, const uint16_t *h, size_t h_len,
 PERK_LOOK_AT_RESULT
 uint32_t perk_check(const uint8_t *bytes, size_t bytes_len);
 
+/*
+ * A bundle holds the packages of one key: the key's fields once, 01, 02, 03 and, where y is not all zero, 04, and then one
+ * group or more, each the fields 05, 06 and 07 of one package. Every field is as in a package. The serials of the groups
+ * rise: each is above the one before it, as a number, so that a serial of two bytes comes before one of four. Nothing else
+ * stands in a bundle. A package is a bundle of one group, and a bundle of one group is a package; so are the key's fields,
+ * PERK_KEY_BYTES(n, m, target) bytes, followed by any one group of a bundle, PERK_GROUP_BYTES(n, serial) bytes.
+ *
+ * n, m and the number of groups of a bundle; on a refusal the three keep their values. n, m and groups name three different
+ * numbers of the caller's, none of them within bytes. The number of groups has no limit but the length of bytes.
+ *
+ * Refusals: those of the key's fields as perk_read_package tries them, with 15 at its place; then for each group in turn
+ *
+ *   of 05        9 (fewer than 3 bytes remain), 10, 11, 9 (fewer than the length remain), 19, and then 20, where the serial
+ *                is not above that of the group before, an equal one too; the first group has none before it
+ *   of 06        9, 10, 11, 9, 5
+ *   of 07        9, 10, 11, 9, 6
+ *
+ * After a group the bundle ends where no byte remains. Otherwise the next group is read from there, so that one byte or two
+ * are refused with 9 and another tag than 05, as in a check file, with 10. 12 is never the result. A key's fields without
+ * a group are refused with 9.
+ *
+ * The time is that of reading the key and, beyond it, in proportion to the number of groups; this is not part of the
+ * proof. Stack: under 12 KiB.
+ */
+PERK_LOOK_AT_RESULT
+uint32_t perk_read_bundle(const uint8_t *bytes, size_t bytes_len, uint32_t *n, uint32_t *m, size_t *groups);
+
+/*
+ * For records rooms: joins two bundles of one key to the bundle that has every group of either, once, in rising serial.
+ *
+ *   first        a bundle       second       a bundle; the two may be the same memory
+ *   out          at least as many bytes as the joined bundle has, written: the joined bundle; the bytes after it stay as
+ *                they are. It overlaps neither first nor second
+ *   length       a number of the caller's, not within any of the slices; written: how many bytes the joined bundle has
+ *   groups       another such number, written: how many groups it has
+ *
+ * How to use it: lend an out of first_len + second_len bytes, which is long enough for every two bundles, since the key's
+ * fields are written once; the first *length bytes of out are then the file to store. To add a package to a bundle, lend it
+ * as one of the two. For more than two bundles, lend what was written, *length bytes of it, as first of the next call, with
+ * another out. Nothing is verified here: t and a may be any within the limits.
+ *
+ * What is written depends on the key and on the groups alone. So it makes no difference which bundle is first, and a bundle
+ * that is joined with itself, with some of its own groups, or with one of the two that it was joined from, stays as it is.
+ *
+ * Two groups with one serial are taken once where their t and a are the same. Where they are not, the call is refused with
+ * 22: two proofs have one serial, neither is chosen, and the room has to look at both. 21 means that the bundles are of
+ * different keys.
+ *
+ * Refusals: all those of perk_read_bundle for first, all those for second, and then
+ *
+ *   21           the key's fields differ, byte by byte; field 04 in one bundle alone is such a difference
+ *   22           two groups with one serial differ in field 06 or 07
+ *   13           out is shorter than the joined bundle
+ *
+ * On each of them out, length and groups keep what they hold. Where the result may be of either bundle, as 9 may,
+ * perk_read_bundle tells of which it is.
+ *
+ * Proved besides: perk_read_bundle takes what was written, with the n and m of both bundles and the same number of groups;
+ * and a bundle that is joined with itself gives its own bytes, where out is long enough.
+ *
+ * The time is that of reading the key, once where both bundles have the same, and, beyond it, in proportion to the number
+ * of groups; this is not part of the proof. Stack: under 12 KiB.
+ */
+PERK_LOOK_AT_RESULT
+uint32_t perk_join_bundles(const uint8_t *first, size_t first_len, const uint8_t *second, size_t second_len, uint8_t *out,
+                           size_t out_len, size_t *length, size_t *groups);
+
 #ifdef __cplusplus
 }
 #endif
@@ -405,6 +479,9 @@ static inline const char *perk_refusal_text(uint32_t number) {
     case PERK_DEPENDENT_ROWS: return "some coefficients from F, not all zero, combine the rows of H to zero";
     case PERK_SPARE_CODE: return "a position is a spare code, n to 2^d - 1, which names no column";
     case PERK_LONG_SERIAL: return "a serial of four bytes is below 65536, so that it fits two";
+    case PERK_SERIAL_ORDER: return "a group's serial is not above the one before it";
+    case PERK_OTHER_KEY: return "the two bundles have different key fields";
+    case PERK_GROUPS_DIFFER: return "two groups with one serial differ in t or a";
     case PERK_REJECTED: return "rejected";
     default: return "no result of this library";
     }

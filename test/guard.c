@@ -1,7 +1,8 @@
 /*
  * Lengths are decided before a slice is read: each slice ends where memory ends, and where its stated length is too long, as a length in bytes
  * for one in words is, the answer is 3 and nothing past the end is read. The readers take files that end where memory ends, whole and cut at
- * every byte, and a package is written to outputs that end there, from none to its length. Prints how many calls were made.
+ * every byte, and a package is written to outputs that end there, from none to its length. Bundles that are joined, whole and cut at every
+ * byte, and the output end where memory ends, or begin where memory begins. Prints how many calls were made.
  */
 #include <stdint.h>
 #include <stdio.h>
@@ -115,7 +116,7 @@ static void file(const uint8_t *y, size_t y_len, const uint8_t *serial, size_t s
     place(&s);
     for (size_t part = 0; part <= len; part++) {
         uint32_t n, m, number;
-        size_t start;
+        size_t start, groups;
         uint8_t *end = (uint8_t *)s.start + len, *from = end - part;
         memcpy(from, bytes, part);
         uint32_t stated = part < len ? PERK_BYTES_MISSING : PERK_DONE;
@@ -123,6 +124,9 @@ static void file(const uint8_t *y, size_t y_len, const uint8_t *serial, size_t s
         at_end("perk_check", part, perk_check(from, part), stated);
         stated = part < package_len ? PERK_BYTES_MISSING : part > package_len ? PERK_BYTES_FOLLOW : PERK_DONE;
         at_end("perk_read_package", part, perk_read_package(from, part, &n, &m, &number), stated);
+        /* a package is a bundle of one group; the tag of q begins no second one */
+        stated = part == package_len ? PERK_DONE : part < package_len + 3 ? PERK_BYTES_MISSING : PERK_TAG;
+        at_end("perk_read_bundle", part, perk_read_bundle(from, part, &n, &m, &groups), stated);
         uint32_t length = (uint32_t)perk_field(from, part, PERK_TAG_SERIAL, &start);
         at_end("perk_field", part, length, part == package_len ? (uint32_t)(serial_len - 3) : 0);
         length = (uint32_t)perk_field(from, part, PERK_TAG_Y, &start);
@@ -156,17 +160,103 @@ static void output(uint16_t last, uint32_t serial) {
     at_end("perk_read_package", exact, perk_read_package(start, exact, &n, &m, &number), PERK_DONE);
 }
 
-int main(void) {
-    static const uint8_t short_serial[] = {PERK_TAG_SERIAL, 0, 2, 255, 255}, long_serial[] = {PERK_TAG_SERIAL, 0, 4, 0, 1, 0, 0};
-    static const uint8_t y[] = {PERK_TAG_Y, 0, 2, 7, 0};
-    for (size_t y_len = 0; y_len <= sizeof y; y_len += sizeof y) {
-        file(y, y_len, short_serial, sizeof short_serial);
-        file(y, y_len, long_serial, sizeof long_serial);
+/* bytes, and memory that has a page before it and one after it that cannot be read: of the first bundle, the second and the output */
+struct bytes {
+    uint8_t *start;
+    size_t len;
+};
+static struct bytes rooms[3];
+
+static void make_rooms(void) {
+    size_t page = (size_t)sysconf(_SC_PAGESIZE);
+    for (size_t i = 0; i < 3; i++) {
+        uint8_t *start = mmap(NULL, 3 * page, PROT_NONE, MAP_PRIVATE | MAP_ANONYMOUS, -1, 0);
+        if (start == MAP_FAILED || mprotect(start + page, page, PROT_READ | PROT_WRITE) != 0) exit(2);
+        rooms[i] = (struct bytes){start + page, page};
     }
-    for (uint16_t last = 0; last <= 2047; last += 2047) {
-        output(last, 65535);
-        output(last, 65536);
+}
+
+/* the place of so many bytes that begin where a room begins, or end where it ends */
+static uint8_t *at_edge(size_t of, size_t len, int begins) { return rooms[of].start + (begins ? 0 : rooms[of].len - len); }
+
+/* joins two bundles to an output of this length, all at an edge of their rooms: the answer is the one stated, the output begins with these bytes
+   where it is done, and the rest of its room stays */
+static void join(struct bytes first, struct bytes second, size_t out_len, struct bytes joined, size_t count, uint32_t stated) {
+    for (int begins = 0; begins < 2; begins++) {
+        uint8_t *out = at_edge(2, out_len, begins), *end = rooms[2].start + rooms[2].len;
+        size_t length = SIZE_MAX, groups = SIZE_MAX, written = stated == PERK_DONE ? joined.len : 0;
+        if (first.len > 0) memcpy(at_edge(0, first.len, begins), first.start, first.len);
+        if (second.len > 0) memcpy(at_edge(1, second.len, begins), second.start, second.len);
+        memset(rooms[2].start, 0xA5, rooms[2].len);
+        at_end("perk_join_bundles", first.len, perk_join_bundles(at_edge(0, first.len, begins), first.len, at_edge(1, second.len, begins), second.len,
+               out, out_len, &length, &groups), stated);
+        int right = stated == PERK_DONE ? length == joined.len && groups == count : length == SIZE_MAX && groups == SIZE_MAX;
+        if (written > 0) right = right && memcmp(out, joined.start, written) == 0;
+        for (uint8_t *byte = rooms[2].start; byte < end; byte++) right = right && (*byte == 0xA5 || (byte >= out && byte < out + written));
+        if (right) continue;
+        printf("perk_join_bundles: output, length or groups for %zu and %zu bytes to %zu\n", first.len, second.len, out_len);
+        failed++;
     }
+}
+
+enum { BUNDLE = PERK_KEY_BYTES(2, 1, 1) + 3 * PERK_GROUP_BYTES(2, 65536) };
+
+/* the bundle of n = 2, m = 1, H = (1 0) and x = (0 0) with this y, or without a field of it where it is 0, and these serials; t and a are zero */
+static struct bytes bundle(uint8_t *to, uint16_t y, const uint32_t *serials, size_t count) {
+    static const uint16_t h[2] = {1, 0}, zeros[W];
+    static const uint8_t t[2];
+    uint8_t package[PERK_PACKAGE_BYTES(2, 1, 1, 65536)];
+    size_t length, key = PERK_KEY_BYTES(2, 1, y != 0), len = key;
+    for (size_t i = 0; i < count; i++) {
+        if (perk_write_package(2, 1, h, 2, zeros, 2, &y, 1, serials[i], t, 2, zeros, W, package, sizeof package, &length) != PERK_DONE) exit(2);
+        memcpy(to, package, key);
+        memcpy(to + len, package + key, length - key);
+        len += length - key;
+    }
+    return (struct bytes){to, len};
+}
+
+/* every part of one bundle with the whole other, in either order: a part is a bundle where it ends with a group */
+static void parts(uint16_t y) {
+    static const uint32_t serials[3] = {7, 8, 65536};
+    uint8_t whole[BUNDLE], other[BUNDLE], joined[BUNDLE];
+    size_t end = bundle(whole, y, serials + 1, 1).len, ends = bundle(whole, y, serials + 1, 2).len;
+    for (size_t others = 1; others <= 2; others++) {
+        struct bytes second = bundle(other, y, serials, others);
+        for (size_t len = 0; len <= ends; len++) {
+            size_t count = len == end ? 1 : len == ends ? 2 : 0;
+            struct bytes part = {whole, len}, both = bundle(joined, y, serials, count + 1);
+            join(part, second, BUNDLE, both, count + 1, count > 0 ? PERK_DONE : PERK_BYTES_MISSING);
+            join(second, part, BUNDLE, both, count + 1, count > 0 ? PERK_DONE : PERK_BYTES_MISSING);
+        }
+    }
+}
+
+/* outputs from none to two bytes more than the joined bundle has; 20, 21 and 22, which come before 13 */
+static void outputs(uint16_t y) {
+    static const uint32_t serials[3] = {7, 8, 65536}, twice[2] = {7, 7};
+    uint8_t low[BUNDLE], high[BUNDLE], joined[BUNDLE], wrong[BUNDLE];
+    struct bytes first = bundle(low, y, serials, 2), second = bundle(high, y, serials + 1, 2), both = bundle(joined, y, serials, 3);
+    for (size_t room = 0; room <= both.len + 2; room++) {
+        join(first, second, room, both, 3, room < both.len ? PERK_SHORT_OUTPUT : PERK_DONE);
+        join(second, first, room, both, 3, room < both.len ? PERK_SHORT_OUTPUT : PERK_DONE);
+        join(both, both, room, both, 3, room < both.len ? PERK_SHORT_OUTPUT : PERK_DONE);
+        struct bytes other = bundle(wrong, y, twice, 2);
+        join(other, first, room, both, 3, PERK_SERIAL_ORDER);
+        join(first, other, room, both, 3, PERK_SERIAL_ORDER);
+        other = bundle(wrong, y ^ 1, serials, 3);
+        join(first, other, room, both, 3, PERK_OTHER_KEY);
+        join(other, first, room, both, 3, PERK_OTHER_KEY);
+        /* the last byte of a */
+        other = bundle(wrong, y, serials, 2);
+        wrong[other.len - 1] = 1;
+        join(first, other, room, both, 3, PERK_GROUPS_DIFFER);
+        join(other, second, room, both, 3, PERK_GROUPS_DIFFER);
+    }
+}
+
+/* every entry with right lengths, and with one wrong */
+static void lengths(void) {
     for (size_t e = 0; e < sizeof entries / sizeof *entries; e++) {
         struct slice *s = entries[e].slices;
         size_t slices = 0;
@@ -197,6 +287,23 @@ int main(void) {
             s[i].told = s[i].count;
         }
     }
+}
+
+int main(void) {
+    static const uint8_t short_serial[] = {PERK_TAG_SERIAL, 0, 2, 255, 255}, long_serial[] = {PERK_TAG_SERIAL, 0, 4, 0, 1, 0, 0};
+    static const uint8_t y[] = {PERK_TAG_Y, 0, 2, 7, 0};
+    make_rooms();
+    for (size_t y_len = 0; y_len <= sizeof y; y_len += sizeof y) {
+        file(y, y_len, short_serial, sizeof short_serial);
+        file(y, y_len, long_serial, sizeof long_serial);
+    }
+    for (uint16_t last = 0; last <= 2047; last += 2047) {
+        output(last, 65535);
+        output(last, 65536);
+        parts(last);
+        outputs(last);
+    }
+    lengths();
     printf("%u calls, %u failed\n", calls, failed);
     return failed != 0;
 }

@@ -17,6 +17,9 @@ static uint8_t out[PERK_LARGEST_PACKAGE_BYTES + 2];
 /* the masked witness and the proof in the files */
 static const uint8_t no_bits[PERK_T_BYTES(N)];
 static const uint16_t no_words[PERK_A_WORDS(N)];
+/* bundles of up to five groups, what they are joined to, and the output */
+enum { BUNDLE = PERK_KEY_BYTES(N, M, 1) + 5 * PERK_GROUP_BYTES(N, 65536) };
+static uint8_t first[BUNDLE], second[BUNDLE], both[BUNDLE], joined[BUNDLE + 2];
 typedef char largest[PERK_PACKAGE_BYTES(N, M, 1, 65536) == PERK_LARGEST_PACKAGE_BYTES &&
                      PERK_CHECK_FILE_BYTES(N, M, 1, 65536) == sizeof bytes - 1 ? 1 : -1];
 typedef char lengths[PERK_SERIAL_BYTES(0) == 2 && PERK_SERIAL_BYTES(65535) == 2 && PERK_SERIAL_BYTES(65536) == 4 &&
@@ -45,9 +48,16 @@ static void unit_rows(size_t n, size_t m) {
     for (size_t e = 0; e < m; e++) h[e * n + e] = 1;
 }
 
-/* the package of a key with the unit rows and a proof of zeros, with the serial in this many bytes; where there is a target y is
-   (0, .., 0, 256), and else it is absent */
-static size_t package(size_t n, size_t m, int target, uint32_t serial, size_t serial_bytes) {
+/* the fields of a group with a proof of zeros, with the serial in this many bytes */
+static size_t group(size_t n, size_t at, uint32_t serial, size_t serial_bytes) {
+    at = field(at, PERK_TAG_SERIAL, serial_bytes);
+    for (size_t i = 1; i <= serial_bytes; i++, serial >>= 8) bytes[at - i] = (uint8_t)(serial & 255);
+    at = field(at, PERK_TAG_T, PERK_T_BYTES(n));
+    return field(at, PERK_TAG_A, 2 * PERK_A_WORDS(n));
+}
+
+/* the fields of a key with the unit rows; where there is a target y is (0, .., 0, 256), and else it is absent */
+static size_t key(size_t n, size_t m, int target) {
     size_t at = field(0, PERK_TAG_SIZES, 2);
     bytes[at - 2] = (uint8_t)n;
     bytes[at - 1] = (uint8_t)m;
@@ -59,10 +69,12 @@ static size_t package(size_t n, size_t m, int target, uint32_t serial, size_t se
         at = field(at, PERK_TAG_Y, 2 * PERK_Y_WORDS(m));
         bytes[at - 2] = 1;
     }
-    at = field(at, PERK_TAG_SERIAL, serial_bytes);
-    for (size_t i = 1; i <= serial_bytes; i++, serial >>= 8) bytes[at - i] = (uint8_t)(serial & 255);
-    at = field(at, PERK_TAG_T, PERK_T_BYTES(n));
-    return field(at, PERK_TAG_A, 2 * PERK_A_WORDS(n));
+    return at;
+}
+
+/* the package of such a key and such a group */
+static size_t package(size_t n, size_t m, int target, uint32_t serial, size_t serial_bytes) {
+    return group(n, key(n, m, target), serial, serial_bytes);
 }
 
 /* the check file of a package that ends there: the proof is zero, and so are all weights */
@@ -97,6 +109,70 @@ static void writes(size_t n, size_t m, int target, uint32_t serial, size_t of_pa
     y[m - 1] = 0;
 }
 
+/* PERK_DONE where these bytes are a bundle with these sizes and so many groups; on a refusal the three numbers are kept */
+static uint32_t reads(const uint8_t *bundle, size_t len, size_t n, size_t m, size_t count) {
+    uint32_t read_n = 97, read_m = 98;
+    size_t groups = 99;
+    uint32_t result = perk_read_bundle(bundle, len, &read_n, &read_m, &groups);
+    if (result != PERK_DONE) return read_n == 97 && read_m == 98 && groups == 99 ? result : PERK_REJECTED;
+    return read_n == n && read_m == m && groups == count ? PERK_DONE : PERK_REJECTED;
+}
+
+/* PERK_DONE where the first two are joined to the bundle in both, of this length and so many groups, in an output of this length; on a refusal
+   the output and both numbers are kept */
+static uint32_t joins(const uint8_t *one, size_t one_len, const uint8_t *two, size_t two_len, size_t room, size_t stated, size_t count) {
+    size_t length = 98, groups = 99, at = 0;
+    memset(joined, 7, sizeof joined);
+    uint32_t result = perk_join_bundles(one, one_len, two, two_len, joined, room, &length, &groups);
+    if (result == PERK_DONE) {
+        if (length != stated || groups != count || memcmp(joined, both, stated) != 0) return PERK_REJECTED;
+        at = stated;
+    } else if (length != 98 || groups != 99) return PERK_REJECTED;
+    while (at < sizeof joined && joined[at] == 7) at++;
+    return at == sizeof joined ? result : PERK_REJECTED;
+}
+
+/* the bundle of these sizes with these serials, copied from bytes */
+static size_t bundle(uint8_t *to, size_t n, size_t m, int target, const uint32_t *serials, size_t count) {
+    size_t at = key(n, m, target), stated = PERK_KEY_BYTES(n, m, target);
+    for (size_t i = 0; i < count; i++) {
+        at = group(n, at, serials[i], PERK_SERIAL_BYTES(serials[i]));
+        stated += PERK_GROUP_BYTES(n, serials[i]);
+    }
+    expect("length of a bundle", n, m, at == stated ? PERK_DONE : PERK_SLICE_LENGTH, PERK_DONE);
+    memcpy(to, bytes, at);
+    return at;
+}
+
+/* two bundles of these sizes, read and joined, and their refusals, each by its name */
+static void bundles(size_t n, size_t m, int target) {
+    static const uint32_t all[] = {1, 2, 65535, 65536, 4294967295}, some[] = {1, 65535, 65536}, others[] = {1, 2, 65536, 4294967295};
+    size_t first_len = bundle(first, n, m, target, some, 3), second_len = bundle(second, n, m, target, others, 4), len = bundle(both, n, m, target, all, 5);
+    expect("read bundle", n, m, reads(first, first_len, n, m, 3), PERK_DONE);
+    expect("read bundle", n, m, reads(second, second_len, n, m, 4), PERK_DONE);
+    expect("38", n, m, reads(first, first_len - 1, n, m, 0), PERK_BYTES_MISSING);
+    expect("39", n, m, reads(first, PERK_KEY_BYTES(n, m, target), n, m, 0), PERK_BYTES_MISSING);
+    for (size_t room = len + 2; room >= len - 1; room--) {
+        uint32_t stated = room < len ? PERK_SHORT_OUTPUT : PERK_DONE;
+        expect("join bundles", n, m, joins(first, first_len, second, second_len, room, len, 5), stated);
+        expect("in the other order", n, m, joins(second, second_len, first, first_len, room, len, 5), stated);
+        expect("a bundle with itself", n, m, joins(both, len, both, len, room, len, 5), stated);
+        expect("with a part of itself", n, m, joins(first, first_len, both, len, room, len, 5), stated);
+    }
+    /* 21 and 22, also where the output is too short, and 20 */
+    second[second_len - 1] = 1;
+    expect("40", n, m, joins(both, len, second, second_len, BUNDLE, len, 5), PERK_GROUPS_DIFFER);
+    expect("41", n, m, joins(second, second_len, both, len, 0, len, 5), PERK_GROUPS_DIFFER);
+    second_len = bundle(second, n, m, !target, others, 4);
+    expect("42", n, m, joins(first, first_len, second, second_len, BUNDLE, len, 5), PERK_OTHER_KEY);
+    expect("43", n, m, joins(second, second_len, first, first_len, 0, len, 5), PERK_OTHER_KEY);
+    first_len = bundle(first, n, m, target, (const uint32_t[]){65536, 65535}, 2);
+    expect("44", n, m, reads(first, first_len, n, m, 0), PERK_SERIAL_ORDER);
+    expect("45", n, m, joins(second, second_len, first, first_len, BUNDLE, len, 5), PERK_SERIAL_ORDER);
+    first_len = bundle(first, n, m, target, (const uint32_t[]){7, 7}, 2);
+    expect("46", n, m, reads(first, first_len, n, m, 0), PERK_SERIAL_ORDER);
+}
+
 /* the files of these sizes with and without a target and with this serial, as they are written and as they are read */
 static void files(size_t n, size_t m, int target, uint32_t written) {
     uint32_t read_n = 0, read_m = 0, serial = ~written;
@@ -105,6 +181,7 @@ static void files(size_t n, size_t m, int target, uint32_t written) {
     writes(n, m, target, written, of_package);
     expect("read package", n, m, perk_read_package(bytes, of_package, &read_n, &read_m, &serial), PERK_DONE);
     expect("sizes", n, m, read_n == n && read_m == m && serial == written ? PERK_DONE : PERK_REJECTED, PERK_DONE);
+    expect("a package as a bundle", n, m, reads(bytes, of_package, n, m, 1), PERK_DONE);
     size_t length = perk_field(bytes, of_package, PERK_TAG_SERIAL, &start);
     expect("field of the serial", n, m, length == PERK_SERIAL_BYTES(written) ? PERK_DONE : PERK_REJECTED, PERK_DONE);
     uint32_t found = 0;
@@ -126,6 +203,7 @@ static void files(size_t n, size_t m, int target, uint32_t written) {
 
     /* refusals, each by its name */
     expect("1", n, m, perk_read_package(bytes, at, &read_n, &read_m, &serial), PERK_BYTES_FOLLOW);
+    expect("a check file as a bundle", n, m, reads(bytes, at, n, m, 0), PERK_TAG);
     expect("2", n, m, perk_check(bytes, at - 1), PERK_BYTES_MISSING);
     bytes[0] = PERK_TAG_H;
     expect("3", n, m, perk_check(bytes, at), PERK_TAG);
@@ -143,6 +221,7 @@ static void long_form(size_t n, size_t m, uint32_t written) {
     size_t at = check_file(n, m, of_package);
     expect("14", n, m, perk_read_check_file(bytes, at, &kept[0], &kept[1], &kept[2]), PERK_LONG_SERIAL);
     expect("15", n, m, perk_check(bytes, at), PERK_LONG_SERIAL);
+    expect("of a bundle", n, m, reads(bytes, of_package, n, m, 0), PERK_LONG_SERIAL);
     expect("n, m and serial kept", n, m, kept[0] == 7 && kept[1] == 8 && kept[2] == 9 ? PERK_DONE : PERK_REJECTED, PERK_DONE);
 }
 
@@ -155,6 +234,7 @@ static void wrong_targets(size_t n, size_t m) {
     expect("its field y", n, m, perk_field(bytes, of_package, PERK_TAG_Y, &start) == 0 && start == 0 ? PERK_DONE : PERK_REJECTED, PERK_DONE);
     size_t at = check_file(n, m, of_package);
     expect("17", n, m, perk_check(bytes, at), PERK_ZERO_TARGET);
+    expect("of a bundle", n, m, reads(bytes, of_package, n, m, 0), PERK_ZERO_TARGET);
     bytes[last] = 8;
     expect("18", n, m, perk_read_check_file(bytes, at, &kept[0], &kept[1], &kept[2]), PERK_KEY_ELEMENT);
     expect("n, m and serial kept", n, m, kept[0] == 7 && kept[1] == 8 && kept[2] == 9 ? PERK_DONE : PERK_REJECTED, PERK_DONE);
@@ -189,9 +269,33 @@ static uint32_t ranked(size_t n, size_t m, size_t stated) {
     return rank == stated && zeros == m - rank ? PERK_DONE : PERK_REJECTED;
 }
 
+/* every function that reads a file refuses the key whose H stands in h, with and without a target, and keeps its outputs */
+static void dependent_files(const char *what, size_t n, size_t m) {
+    uint32_t kept[3] = {7, 8, 9};
+    size_t start = 5;
+    for (int target = 0; target < 2; target++) {
+        size_t of_package = package(n, m, target, 7, 2), after_x = 11 + 2 * m * n + 2 * n, after_y = after_x + 3 + 2 * m;
+        for (size_t i = 0; i < PERK_H_WORDS(n, m); i++) {
+            bytes[8 + 2 * i] = (uint8_t)(h[i] >> 8);
+            bytes[8 + 2 * i + 1] = (uint8_t)(h[i] & 255);
+        }
+        expect(what, n, m, perk_read_package(bytes, of_package, &kept[0], &kept[1], &kept[2]), PERK_DEPENDENT_ROWS);
+        expect(what, n, m, perk_field(bytes, of_package, PERK_TAG_H, &start) == 0 && start == 0 ? PERK_DONE : PERK_REJECTED, PERK_DONE);
+        size_t at = check_file(n, m, of_package);
+        expect(what, n, m, perk_read_check_file(bytes, at, &kept[0], &kept[1], &kept[2]), PERK_DEPENDENT_ROWS);
+        expect(what, n, m, perk_check(bytes, at), PERK_DEPENDENT_ROWS);
+        /* nothing after the key is looked at; a lone byte 04 begins a field that is cut */
+        expect(what, n, m, perk_check(bytes, after_x), PERK_DEPENDENT_ROWS);
+        expect(what, n, m, perk_check(bytes, after_x + 1), target ? PERK_BYTES_MISSING : PERK_DEPENDENT_ROWS);
+        if (target) expect(what, n, m, perk_check(bytes, after_y), PERK_DEPENDENT_ROWS);
+        expect(what, n, m, reads(bytes, PERK_KEY_BYTES(n, m, target), n, m, 0), PERK_DEPENDENT_ROWS);
+        expect(what, n, m, joins(bytes, of_package, bytes, of_package, 0, of_package, 0), PERK_DEPENDENT_ROWS);
+    }
+    expect("n, m and serial kept", n, m, kept[0] == 7 && kept[1] == 8 && kept[2] == 9 ? PERK_DONE : PERK_REJECTED, PERK_DONE);
+}
+
 /* every function that takes a key refuses the one whose H stands in h, and keeps its outputs */
 static void dependent(const char *what, size_t n, size_t m) {
-    uint32_t kept[3] = {7, 8, 9};
     size_t start = 5;
     memset(t, 7, sizeof t);
     memset(a, 7, sizeof a);
@@ -224,25 +328,7 @@ static void dependent(const char *what, size_t n, size_t m) {
         if (values[i] != 0x0707) failed = 1;
     memset(t, 0, sizeof t);
     memset(a, 0, sizeof a);
-
-    /* files with and without a target */
-    for (int target = 0; target < 2; target++) {
-        size_t of_package = package(n, m, target, 7, 2), after_x = 11 + 2 * m * n + 2 * n, after_y = after_x + 3 + 2 * m;
-        for (size_t i = 0; i < PERK_H_WORDS(n, m); i++) {
-            bytes[8 + 2 * i] = (uint8_t)(h[i] >> 8);
-            bytes[8 + 2 * i + 1] = (uint8_t)(h[i] & 255);
-        }
-        expect(what, n, m, perk_read_package(bytes, of_package, &kept[0], &kept[1], &kept[2]), PERK_DEPENDENT_ROWS);
-        expect(what, n, m, perk_field(bytes, of_package, PERK_TAG_H, &start) == 0 && start == 0 ? PERK_DONE : PERK_REJECTED, PERK_DONE);
-        size_t at = check_file(n, m, of_package);
-        expect(what, n, m, perk_read_check_file(bytes, at, &kept[0], &kept[1], &kept[2]), PERK_DEPENDENT_ROWS);
-        expect(what, n, m, perk_check(bytes, at), PERK_DEPENDENT_ROWS);
-        /* nothing after the key is looked at; a lone byte 04 begins a field that is cut */
-        expect(what, n, m, perk_check(bytes, after_x), PERK_DEPENDENT_ROWS);
-        expect(what, n, m, perk_check(bytes, after_x + 1), target ? PERK_BYTES_MISSING : PERK_DEPENDENT_ROWS);
-        if (target) expect(what, n, m, perk_check(bytes, after_y), PERK_DEPENDENT_ROWS);
-    }
-    expect("n, m and serial kept", n, m, kept[0] == 7 && kept[1] == 8 && kept[2] == 9 ? PERK_DONE : PERK_REJECTED, PERK_DONE);
+    dependent_files(what, n, m);
 }
 
 /* the rank of the unit rows and of rows that lean: the last is zero, the last is the first times 5, all are zero */
@@ -297,6 +383,8 @@ static void sizes(size_t n, size_t m) {
         if (PERK_SERIAL_BYTES(serials[i]) < 4) long_form(n, m, serials[i]);
     }
 
+    bundles(n, m, 0);
+    bundles(n, m, 1);
     wrong_targets(n, m);
     codes(n, m);
     rows(n, m);
@@ -351,10 +439,33 @@ static void writer(void) {
     expect("length and output kept", 2, 1, length == 5 && kept_from(0) ? PERK_DONE : PERK_REJECTED, PERK_DONE);
 }
 
-/* each of 0 to 16, 19 and 255 has a text, and no two the same; every other number has one text */
+/* joining at n = 2, m = 1: the refusals of the first bundle, of the second, 21, 22 and 13, each together with faults of all that come later */
+static void joiner(void) {
+    static const uint32_t serials[] = {7, 8}, falling[] = {8, 7};
+    size_t len = bundle(both, 2, 1, 0, serials, 2), other = bundle(second, 2, 1, 1, serials, 2);
+    /* another key, with a group that differs; then that group alone */
+    second[other - 1] = 1;
+    expect("47", 2, 1, joins(both, len, second, other, 0, len, 2), PERK_OTHER_KEY);
+    memcpy(first, both, len);
+    first[len - 1] = 1;
+    expect("48", 2, 1, joins(both, len, first, len, 0, len, 2), PERK_GROUPS_DIFFER);
+    expect("49", 2, 1, joins(both, len, both, len, len - 1, len, 2), PERK_SHORT_OUTPUT);
+    expect("50", 2, 1, joins(both, len, both, len, len, len, 2), PERK_DONE);
+    /* the other key with serials that fall */
+    bundle(second, 2, 1, 1, falling, 2);
+    expect("51", 2, 1, joins(both, len, second, other, 0, len, 2), PERK_SERIAL_ORDER);
+    /* a byte of the last t above 1, in one bundle that is whole and one that is cut after it */
+    first[len - PERK_GROUP_BYTES(2, 8) + 8] = 2;
+    expect("52", 2, 1, joins(first, len, second, other, 0, len, 2), PERK_BIT);
+    expect("53", 2, 1, joins(second, other, first, len, 0, len, 2), PERK_SERIAL_ORDER);
+    expect("54", 2, 1, joins(first, len - 1, second, other, 0, len, 2), PERK_BIT);
+    expect("55", 2, 1, joins(both, len - 1, first, len, 0, len, 2), PERK_BYTES_MISSING);
+}
+
+/* each of 0 to 16, 19 to 22 and 255 has a text, and no two the same; every other number has one text */
 static void texts(void) {
-    static const uint32_t numbers[] = {0, 1, 2, 3, 4, 5, 6, 7, 8, 9, 10, 11, 12, 13, 14, 15, 16, 19, 255, 17};
-    static const uint32_t others[] = {18, 20, 254, 256, UINT32_MAX};
+    static const uint32_t numbers[] = {0, 1, 2, 3, 4, 5, 6, 7, 8, 9, 10, 11, 12, 13, 14, 15, 16, 19, 20, 21, 22, 255, 17};
+    static const uint32_t others[] = {18, 23, 254, 256, UINT32_MAX};
     size_t count = sizeof numbers / sizeof *numbers;
     for (size_t i = 0; i < count; i++)
         for (size_t j = 0; j < i; j++)
@@ -372,6 +483,7 @@ int main(void) {
     }
     material();
     writer();
+    joiner();
     texts();
     return failed;
 }

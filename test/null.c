@@ -38,11 +38,23 @@ int main(void) {
     expect("field", (uint32_t)perk_field(NONE, 2, &start), 0);
     expect("its start", (uint32_t)start, 0);
     expect("check", perk_check(NONE), 9);
+    size_t groups = 6;
+    expect("read bundle", perk_read_bundle(NONE, &kept[0], &kept[1], &groups), 9);
+    expect("n, m and groups kept", kept[0] == 7 && kept[1] == 8 && groups == 6, 1);
     /* no length is stated for the output of a package: it is too short */
     static const uint16_t row[2] = {1, 0}, zeros[12];
     static const uint8_t bits[2];
     size_t length = 5;
     expect("write package to nothing", perk_write_package(2, 1, row, 2, zeros, 2, zeros, 1, 7, bits, 2, zeros, 12, NONE, &length), 13);
     expect("the length kept", length == 5, 1);
+    /* none of the slices of a join has a stated length: no bytes are no bundle, and an output of none is too short */
+    uint8_t bundle[PERK_PACKAGE_BYTES(2, 1, 0, 7)];
+    expect("write package", perk_write_package(2, 1, row, 2, zeros, 2, zeros, 1, 7, bits, 2, zeros, 12, bundle, sizeof bundle, &length), 0);
+    length = 5;
+    expect("join nothing", perk_join_bundles(NONE, NONE, NONE, &length, &groups), 9);
+    expect("join nothing with a bundle", perk_join_bundles(NONE, bundle, sizeof bundle, NONE, &length, &groups), 9);
+    expect("join a bundle with nothing", perk_join_bundles(bundle, sizeof bundle, NONE, NONE, &length, &groups), 9);
+    expect("join bundles to nothing", perk_join_bundles(bundle, sizeof bundle, bundle, sizeof bundle, NONE, &length, &groups), 13);
+    expect("length and groups kept", length == 5 && groups == 6, 1);
     return failed;
 }

@@ -1,6 +1,7 @@
 /*
  * The stack that each function of perk.h takes at the largest sizes, by painting a thread's stack before the call: prints it, and
- * fails where it is above what perk.h states. Files are taken with y and a serial of four bytes, then with one of two, and without y.
+ * fails where it is above what perk.h states. Files are taken with y and a serial of four bytes, then with one of two, and without y;
+ * bundles have the key of the file and many groups.
  *
  * usage: stack CHECK_FILE    (an accepted check file with n = 64, m = 63, y and a serial of four bytes)
  */
@@ -10,7 +11,7 @@
 #include <string.h>
 #include "perk.h"
 
-enum { N = 64, M = 63, D = 6, W = 12, SIZE = 1 << 20, PAINT = 0xA5 };
+enum { N = 64, M = 63, D = 6, W = 12, SIZE = 1 << 20, PAINT = 0xA5, GROUPS = 100 };
 
 static uint16_t h[M * N], x[N], y[M], v[W * N * D], r[W * (D - 1)], s[W * (D - 1)], alpha[W * (N + M)], a[W * D], q[W * N * D];
 static uint16_t matrix[M * N], delta[W], masks[W * (D - 1)], polynomials[W * (N + M) * (D + 1)], values[W * (N + M)], out[W];
@@ -18,6 +19,9 @@ static uint16_t matrix[M * N], delta[W], masks[W * (D - 1)], polynomials[W * (N 
 static uint16_t target[M] = {1};
 static uint8_t positions[N], u[N * D], t[N * D], package[PERK_LARGEST_PACKAGE_BYTES], file[32768];
 static size_t file_len, package_len;
+/* bundles whose serials are even and odd, and what they are joined to */
+static uint8_t even[PERK_KEY_BYTES(N, M, 1) + GROUPS * PERK_GROUP_BYTES(N, 65536)], odd[sizeof even], joined[2 * sizeof even];
+static size_t bundle_len;
 
 /* the key, as every function with a key takes it */
 #define KEY N, M, h, M * N, x, N, y, M
@@ -58,6 +62,15 @@ static uint32_t field(void) {
     return perk_field(file, package_len, 7, &start) == 0;
 }
 static uint32_t check(void) { return perk_check(file, file_len); }
+static uint32_t read_bundle(void) {
+    uint32_t n, m;
+    size_t groups;
+    return perk_read_bundle(even, bundle_len, &n, &m, &groups);
+}
+static uint32_t join_bundles(void) {
+    size_t length, groups;
+    return perk_join_bundles(even, bundle_len, odd, bundle_len, joined, sizeof joined, &length, &groups);
+}
 
 static uint32_t (*function)(void);
 static uint32_t result;
@@ -112,6 +125,38 @@ static void remove_y(void) {
     take(at, 3 + 2 * M);
 }
 
+/* makes a bundle of the package in the file: its key, and its group with every second serial from this one on; the length */
+static size_t bundle(uint8_t *to, uint8_t first) {
+    size_t key_len = head_of(PERK_TAG_SERIAL), group_len = package_len - key_len, at = key_len;
+    /* the place in a group of the serial's last byte, which alone is changed */
+    size_t last = 2 + (size_t)file[key_len + 2];
+    memcpy(to, file, key_len);
+    for (size_t i = 0; i < GROUPS; i++, at += group_len) {
+        memcpy(to + at, file + key_len, group_len);
+        to[at + last] = (uint8_t)(first + 2 * i);
+    }
+    return at;
+}
+
+/* H has unit rows, x and y are zero, so that every order solves the key; the other numbers are any within the limit, and a and the masks
+   are zero */
+static void fill(void) {
+    for (int e = 0; e < M; e++) h[e * N + e] = 1;
+    for (int i = 0; i < N; i++) positions[i] = (uint8_t)i;
+    for (int i = 0; i < W * N * D; i++) v[i] = q[i] = (uint16_t)(i * 37 % 2048);
+    for (int i = 0; i < W * (N + M); i++) alpha[i] = (uint16_t)(i % 2048);
+}
+
+/* makes the file shorter, but for the first time, and the package and the bundles of it */
+static void prepare(int shorter) {
+    if (shorter == 1) shorten_serial();
+    if (shorter == 2) remove_y();
+    /* the package ends where the field with the tag of q starts */
+    package_len = head_of(PERK_TAG_Q);
+    bundle_len = bundle(even, 0);
+    if (bundle(odd, 1) != bundle_len) exit(2);
+}
+
 int main(int argc, char **argv) {
     /* the first of the functions that take a file */
     enum { FILES = 8 };
@@ -130,25 +175,18 @@ int main(int argc, char **argv) {
                  {"perk_read_package", read_package, 12 * 1024},
                  {"perk_read_check_file", read_check_file, 12 * 1024},
                  {"perk_field", field, 12 * 1024},
-                 {"perk_check", check, 40 * 1024}};
+                 {"perk_check", check, 40 * 1024},
+                 {"perk_read_bundle", read_bundle, 12 * 1024},
+                 {"perk_join_bundles", join_bundles, 12 * 1024}};
     FILE *input = argc == 2 ? fopen(argv[1], "rb") : NULL;
     if (input == NULL) return 2;
     file_len = fread(file, 1, sizeof file, input);
     fclose(input);
-    /* H has unit rows, x and y are zero, so that every order solves the key; the other numbers are any within the limit, and a and the masks
-       are zero */
-    for (int e = 0; e < M; e++) h[e * N + e] = 1;
-    for (int i = 0; i < N; i++) positions[i] = (uint8_t)i;
-    for (int i = 0; i < W * N * D; i++) v[i] = q[i] = (uint16_t)(i * 37 % 2048);
-    for (int i = 0; i < W * (N + M); i++) alpha[i] = (uint16_t)(i % 2048);
-
+    fill();
     int failed = 0;
     size_t base = used(nothing);
     for (int shorter = 0; shorter < 3; shorter++) {
-        if (shorter == 1) shorten_serial();
-        if (shorter == 2) remove_y();
-        /* the package ends where the field with the tag of q starts */
-        package_len = head_of(PERK_TAG_Q);
+        prepare(shorter);
         for (size_t i = shorter ? FILES : 0; i < sizeof calls / sizeof *calls; i++) {
             size_t bytes = used(calls[i].call) - base;
             printf("%s: %lu bytes of stack, stated: under %lu\n", calls[i].name, (unsigned long)bytes, (unsigned long)calls[i].most);

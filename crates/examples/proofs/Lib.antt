@@ -6,3 +6,4 @@ pub mod Readings
 pub mod Accepted
 pub mod Target
 pub mod Packages
+pub mod Bundles

@@ -17,9 +17,16 @@ ghost use Rattle.package.specs.declared.Read.the-variants.{Fields};
 ghost use Rattle.package.specs.Reading.{packageReader, reading};
 ghost use Rattle.package.specs.Written.{contentOf, packageForm};
 ghost use Rattle.package.specs.Said.{keyDataOf, groupOf};
+ghost use Rattle.layout.specs.Tests.{keyOf};
+ghost use Rattle.bundle.specs.declared.Contents.{Contents as Groups};
+ghost use Rattle.bundle.specs.declared.Read.the-variants as bundle;
+ghost use Rattle.bundle.specs.Reading.{reading as readingBundle};
+ghost use Rattle.joining.specs.declared.Size.{Size};
+ghost use Rattle.joining.specs.declared.Joined.the-variants as joined;
 ghost use Rattle.writer.specs.declared.Written.the-variants.{Length};
 ghost use Rattle.writer.specs.Entry.{dataOf, writeOutcome};
 use elimination::MATRIX;
+use joining::Joined;
 use key::Key;
 use layout::Part;
 use layout::Row;
@@ -171,4 +178,37 @@ pub fn written_again(bytes: &[u8], out: &mut [u8]) -> Written
         Read::Refused(refusal) => Written::Refused(refusal),
         Read::Fields(contents) => rewritten(bytes, contents, out),
     }
+}
+
+pub struct Kept {
+    pub joined: Joined,
+    pub read: bundle::Read,
+}
+
+// Two bundles are joined and the result is read: wherever a size is answered, the reader answers for so many bytes the n and m of the first and the
+// same number of groups.
+pub fn joined_back(first: &[u8], second: &[u8], out: &mut [u8]) -> Kept
+    ensures { λ r. ⌜ ((size : Size) → r .joined ≡ joined.Size size → r .read ≡ bundle.Fields (record { n = keyOf (now (first .entry)) .n; m = keyOf (now (first .entry)) .m; groups = size .groups })) ⌝ }
+{
+    match joining::join_bundles(first, second, out) {
+        Joined::Refused(refusal) => Kept {
+            joined: Joined::Refused(refusal),
+            read: bundle::Read::Refused(refusal),
+        },
+        Joined::Size(size) => {
+            let len = size.length;
+            Kept {
+                joined: Joined::Size(size),
+                read: bundle::read_bundle(&out[..len]),
+            }
+        }
+    }
+}
+
+// Any bytes joined with themselves: wherever the reader accepts them as a bundle and there is room, the output begins with those very bytes, and their
+// length and number of groups are answered.
+pub fn joined_again(bytes: &[u8], out: &mut [u8]) -> Joined
+    ensures { λ r. ⌜ ((c : Groups) → readingBundle (levelAt FIRST) (now (bytes .entry)) ≡ bundle.Fields c → length (now (bytes .entry)) ≤ length (now (out .entry)) → (r ≡ joined.Size (record { length = length (now (bytes .entry)); groups = c .groups })) × (now (out .exit) ≡ now (bytes .entry) ++ drop (length (now (bytes .entry))) (now (out .entry)))) ⌝ }
+{
+    joining::join_bundles(bytes, bytes, out)
 }

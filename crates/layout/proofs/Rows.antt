@@ -110,6 +110,11 @@ module _ (l : Level) (s : List ℕ) (at : ℕ) where
   pub outcome-more : (rows others : List Row) {r q : Step} → r ≡ outcome l s at rows → q ≡ further r (λ p. outcome l s p others) → q ≡ outcome l s at (rows ++ others)
   outcome-more rows others e f = outcome-then rows (λ p. others) e f
 
+-- the step for rows after rows where those before them end
+pub further-more : (l : Level) (s : List ℕ) (rows others : List Row) (p : Step) {r q : Step} → r ≡ further p (λ at. outcome l s at rows) → q ≡ further r (λ at. outcome l s at others) → q ≡ further p (λ at. outcome l s at (rows ++ others))
+further-more l s rows others (step.Next at) e f = outcome-more l s at rows others e f
+further-more l s rows others (step.Refused k) e f = f ∙ ap (λ r. further r (λ at. outcome l s at others)) e
+
 -- one row, by its answer
 module _ (l : Level) (s : List ℕ) (at : ℕ) (row : Row) where
   pub row-stops : {r : Refusal} → Refused r ≡ firstOf (rowTests l s at row) → step.Refused r ≡ outcome l s at (row ∷ [])

@@ -23,6 +23,10 @@ serialLength stated = cond (eqb stated 4) 4 2
 abbrev pub optional : List ℕ → ℕ → Row → List Row
 optional s at row = cond (eqb (getD s at 0) (row .tag)) (row ∷ []) []
 
+-- "05 serial (.. unsigned, any value)" at a position, whose length its own bytes tell
+abbrev pub serialRow : List ℕ → ℕ → Row
+serialRow s at = record { tag = 0x05; len = serialLength (word s (at + 1)); kind = Serial }
+
 module _ (l : Level) (key : Key) where
   -- "01 sizes (n, m, one byte each); 02 H (2mn bytes); 03 x (2n)"
   abbrev pub firstRows : List Row
@@ -36,18 +40,21 @@ module _ (l : Level) (key : Key) where
   abbrev pub targetRow : Row
   targetRow = record { tag = 0x04; len = 2 * lengths l key .target; kind = Target }
 
+  -- "06 t (nd bytes); 07 a (24d)", 12 coordinates of two bytes each being the level's
+  abbrev pub proofRows : List Row
+  proofRows =
+      record { tag = 0x06; len = lengths l key .bits; kind = Bits }
+      ∷ record { tag = 0x07; len = 2 * lengths l key .proof; kind = Coordinates }
+      ∷ []
+
 module _ (l : Level) (key : Key) (s : List ℕ) (at : ℕ) where
   -- "The package may have field 04 .. After field 03 the tags 04 and 05 may both come next"
   abbrev pub keyRows : List Row
   keyRows = firstRows l key ++ optional s (after at (firstRows l key)) (targetRow l key)
 
-  -- "05 serial (.. unsigned, any value); 06 t (nd bytes); 07 a (24d)", 12 coordinates of two bytes each being the level's
+  -- "05 serial (.. unsigned, any value); 06 t; 07 a": a group
   abbrev pub groupRows : List Row
-  groupRows =
-      record { tag = 0x05; len = serialLength (word s (at + 1)); kind = Serial }
-      ∷ record { tag = 0x06; len = lengths l key .bits; kind = Bits }
-      ∷ record { tag = 0x07; len = 2 * lengths l key .proof; kind = Coordinates }
-      ∷ []
+  groupRows = serialRow s at ∷ proofRows l key
 
   -- "11 q (24nd), 12 mask numbers (24(d - 1), the only field that may be empty), 13 Δ (24), 14 α (24(n + m))"
   abbrev pub checkRows : List Row

@@ -13,7 +13,7 @@ ghost use Rattle.field.specs.Word.{within};
 ghost use Rattle.key.specs.Key.{Sized};
 ghost use Rattle.layout.specs.declared.Row.{Row};
 ghost use Rattle.layout.specs.declared.Kind.the-variants.{Target};
-ghost use Rattle.layout.specs.Layout.{serialLength, optional, keySegment, groupRows, checkRows, leans, keyTests, keyEnd};
+ghost use Rattle.layout.specs.Layout.{serialLength, optional, serialRow, proofRows, keySegment, groupRows, checkRows, leans, keyTests, keyEnd};
 ghost use Rattle.layout.specs.Tests.{keyAt, zeros, longSerial, valueTests, rowTests, tests, endTests, partOf};
 ghost use Rattle.layout.specs.Steps.{Whole, stepped, outcome, further};
 use elimination::MATRIX;
@@ -327,7 +327,7 @@ pub fn read_key(s: &[u8]) -> Step
 }
 
 // The length that a serial at a position is judged against: 4 where 4 is stated, else 2.
-fn serial_length(s: &[u8], at: usize) -> usize
+pub fn serial_length(s: &[u8], at: usize) -> usize
     ensures { λ r. ⌜ r ≡ serialLength (word (now (s .entry)) (at + 1)) ⌝ }
 {
     if left(s, at) < HEAD {
@@ -340,17 +340,24 @@ fn serial_length(s: &[u8], at: usize) -> usize
     }
 }
 
-// The fields from the serial to a, from a position on: where they end, or the refusal.
-pub fn read_group(s: &[u8], key: Key, at: usize) -> Step
-    requires { ⌜ Sized (levelAt FIRST) key ⌝ }
-    ensures { λ r. ⌜ r ≡ outcome (levelAt FIRST) (now (s .entry)) at (groupRows (levelAt FIRST) key (now (s .entry)) at) ⌝ }
+// The field of a serial at a position: where it ends, or the refusal.
+pub fn read_serial(s: &[u8], at: usize) -> Step
+    ensures { λ r. ⌜ r ≡ outcome (levelAt FIRST) (now (s .entry)) at (serialRow (now (s .entry)) at ∷ []) ⌝ }
 {
-    let len = key.lengths(FIRST);
     let serial = Row {
         tag: Row::SERIAL,
         len: serial_length(s, at),
         kind: Kind::Serial,
     };
+    read_row(s, Step::Next(at), serial)
+}
+
+// t and a, where the fields before them end: where they end, or the first refusal.
+pub fn read_proof(s: &[u8], key: Key, step: Step) -> Step
+    requires { ⌜ Sized (levelAt FIRST) key ⌝ }
+    ensures { λ r. ⌜ r ≡ further step (λ at. outcome (levelAt FIRST) (now (s .entry)) at (proofRows (levelAt FIRST) key)) ⌝ }
+{
+    let len = key.lengths(FIRST);
     let t = Row {
         tag: Row::T,
         len: len.bits,
@@ -361,8 +368,15 @@ pub fn read_group(s: &[u8], key: Key, at: usize) -> Step
         len: 2 * len.proof,
         kind: Kind::Coordinates,
     };
-    let step = read_row(s, Step::Next(at), serial);
     read_row(s, read_row(s, step, t), a)
+}
+
+// The fields from the serial to a, from a position on: where they end, or the refusal.
+pub fn read_group(s: &[u8], key: Key, at: usize) -> Step
+    requires { ⌜ Sized (levelAt FIRST) key ⌝ }
+    ensures { λ r. ⌜ r ≡ outcome (levelAt FIRST) (now (s .entry)) at (groupRows (levelAt FIRST) key (now (s .entry)) at) ⌝ }
+{
+    read_proof(s, key, read_serial(s, at))
 }
 
 // The fields that follow a package in a check file, from a position on: where they end, or the refusal.

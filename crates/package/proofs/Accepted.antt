@@ -27,7 +27,7 @@ use Rattle.layout.proofs.Rows.{none-append, none-join, none-done, head-passed}
 use Rattle.layout.proofs.Files.{first-sized, package-tests, check-file-tests}
 
 -- fields that are not refused end within the bytes
-after-within : (l : Level) (s : List ℕ) (at : ℕ) (rows : List Row) → at ≤ length s → None (tests l s at rows) → after at rows ≤ length s
+pub after-within : (l : Level) (s : List ℕ) (at : ℕ) (rows : List Row) → at ≤ length s → None (tests l s at rows) → after at rows ≤ length s
 unfolding after
 after-within l s at [] h e = h
 after-within l s at (row ∷ rows) h e =

@@ -6,7 +6,7 @@ use Prim.Native.Nat.{ℕ, _+_}
 use native.Mathlib.Omega.{arith}
 use borrow.Author.Tests.{not-false}
 use lib.ListN.{length, drop}
-use Rattle.copying.specs.Words.{Bytes, word, words, fromBytes}
+use Rattle.copying.specs.Words.{Bytes, word, words}
 use Rattle.copying.proofs.Bytes.{words-bytes, words-length, bytes-words}
 use Rattle.field.specs.Level.{FIRST, levelAt}
 use Rattle.elimination.specs.Rank.{short}
@@ -20,6 +20,7 @@ use Rattle.layout.specs.Tests.{keyAt, keyOf, after}
 use Rattle.layout.proofs.Files.{package-end}
 use Rattle.layout.proofs.Bounds.{bounds}
 use Rattle.package.specs.Written.{joined, contentOf, serialBytes, targetFields, KeyData, Group, Check, keyFields, groupFields, checkFields, ValidGroup, ValidCheck, packageForm, checkForm, written, Faithful}
+use Rattle.package.specs.Said.{groupSaid}
 use Rattle.package.proofs.Accepted.{serial-most, part-lt, package-whole, package-stands, package-passes, check-file-whole, check-file-stands, check-file-passes}
 use Rattle.package.proofs.Joined.{Fits, AllBytes, cut, same, content-bytes, next-len, cut-fits}
 use Rattle.package.proofs.Serial.{from-serial, serial-short, serial-bytes, serial-judged, serial-passes, serial-of}
@@ -30,18 +31,14 @@ use Rattle.package.proofs.Opening.{keyRowsAt, keyTable, KeyPasses, key-
 use Rattle.package.proofs.Faithful.{FormLaws, faithful}
 
 -- the fields of a group, whose first row its own bytes tell
-abbrev groupTable : Key → Group → List Row
+abbrev pub groupTable : Key → Group → List Row
 groupTable key g = groupRows (levelAt FIRST) key (joined (groupFields g)) 0
 
-unpackGroup : List (ℕ × List ℕ) → Group
-unpackGroup fields = record {
-  serial = fromBytes (contentOf 0x05 fields);
-  t = contentOf 0x06 fields;
-  a = words (contentOf 0x07 fields);
-}
+abbrev pub unpackGroup : List (ℕ × List ℕ) → Group
+unpackGroup fields = groupSaid (λ tag. contentOf tag fields)
 
-group-packed : (g : Group) → unpackGroup (groupFields g) ≡ g
-unfolding unpackGroup contentOf
+pub group-packed : (g : Group) → unpackGroup (groupFields g) ≡ g
+unfolding contentOf
 group-packed g = rw (from-serial (g .serial), words-bytes (g .a))
 
 -- the length that is stated of the serial, where a group stands and in the group alone
@@ -54,7 +51,7 @@ unfolding joined
 stated-alone g = next-len [] 0x05 (length (serialBytes (g .serial))) (serialBytes (g .serial) ++ joined (drop 1 (groupFields g))) (serial-short (g .serial))
 
 module _ (key : Key) where
-  group-fits : Sized (levelAt FIRST) key → (g : Group) → ValidGroup (levelAt FIRST) key g → Fits (levelAt FIRST) (groupTable key g) (groupFields g)
+  pub group-fits : Sized (levelAt FIRST) key → (g : Group) → ValidGroup (levelAt FIRST) key g → Fits (levelAt FIRST) (groupTable key g) (groupFields g)
   group-fits h g v =
       let l = levelAt FIRST in
       let judged : serialLength (word (joined (groupFields g)) 1) ≡ length (serialBytes (g .serial)) = ap serialLength (stated-alone g) ∙ serial-judged (g .serial) in
@@ -71,7 +68,7 @@ module _ (key : Key) where
         ),
       )
 
-  group-bytes : (g : Group) → ValidGroup (levelAt FIRST) key g → AllBytes (groupFields g)
+  pub group-bytes : (g : Group) → ValidGroup (levelAt FIRST) key g → AllBytes (groupFields g)
   group-bytes g v = (
     omega arith,
     serial-bytes (g .serial) (v .serial),
@@ -83,11 +80,11 @@ module _ (key : Key) where
   )
 
   module _ (s : List ℕ) (b : Bytes s) (at : ℕ) where
-    abbrev groupFound : List (ℕ × List ℕ)
+    abbrev pub groupFound : List (ℕ × List ℕ)
     groupFound = cut s at (groupRows (levelAt FIRST) key s at)
 
-    group-valid : Fits (levelAt FIRST) (groupRows (levelAt FIRST) key s at) groupFound → ValidGroup (levelAt FIRST) key (unpackGroup groupFound)
-    unfolding unpackGroup cut contentOf
+    pub group-valid : Fits (levelAt FIRST) (groupRows (levelAt FIRST) key s at) groupFound → ValidGroup (levelAt FIRST) key (unpackGroup groupFound)
+    unfolding cut contentOf
     group-valid w =
         let f = w .1 in
         record {
@@ -96,8 +93,8 @@ module _ (key : Key) where
           a = (words-length _ _ (f .1 .0 .len), not-false _ (f .1 .0 .values .0));
         }
 
-    group-found : Fits (levelAt FIRST) (groupRows (levelAt FIRST) key s at) groupFound → groupFields (unpackGroup groupFound) ≡ groupFound
-    unfolding unpackGroup cut contentOf
+    pub group-found : Fits (levelAt FIRST) (groupRows (levelAt FIRST) key s at) groupFound → groupFields (unpackGroup groupFound) ≡ groupFound
+    unfolding cut contentOf
     group-found w =
         let c : (tag : ℕ) → List ℕ = λ tag. contentOf tag groupFound in
         let all : (tag : ℕ) → Bytes (c tag) = λ tag. content-bytes s b tag at (groupRows (levelAt FIRST) key s at) in
@@ -106,7 +103,7 @@ module _ (key : Key) where
         (same 0x06 refl
         (same 0x07 (bytes-words (c 0x07) _ (all 0x07) (f .1 .0 .len)) refl))
 
-  group-laws : Sized (levelAt FIRST) key → SegmentLaws (levelAt FIRST) groupFields (ValidGroup (levelAt FIRST) key) (groupTable key) (groupRows (levelAt FIRST) key) Any
+  pub group-laws : Sized (levelAt FIRST) key → SegmentLaws (levelAt FIRST) groupFields (ValidGroup (levelAt FIRST) key) (groupTable key) (groupRows (levelAt FIRST) key) Any
   group-laws h = record {
     fits = group-fits h;
     bytes = group-bytes;
@@ -197,7 +194,7 @@ module _ (key : Key) where
   }
 
 -- a group does not begin with the tag of y
-group-next : (g : Group) (rest : List ℕ) → NotTarget (joined (groupFields g) ++ rest)
+pub group-next : (g : Group) (rest : List ℕ) → NotTarget (joined (groupFields g) ++ rest)
 unfolding joined
 group-next g rest e = omega (arith, e)
 

@@ -146,6 +146,26 @@ joined-bytes l (row ∷ rows) ((tag, c) ∷ fields) w b =
     (bytes-append (tag ∷ twoBytes (length c)) c (bytes-cons tag (twoBytes (length c)) (b .0) (two-bytes (length c) (omega (arith, w .0 .len, w .0 .short)))) (b .1))
     (joined-bytes l rows fields (w .1) (b .2))
 
+-- fields that stand where other bytes end, whatever follows them: none is refused, and they are the fields written
+pub read-there : (l : Level) (pre : List ℕ) (rows : List Row) (fields : List (ℕ × List ℕ)) (rest : List ℕ) → Fits l rows fields
+    → let s = pre ++ (joined fields ++ rest) in None (tests l s (length pre) rows) × (cut s (length pre) rows ≡ fields)
+unfolding tests cut joined
+read-there l pre [] [] rest w = (tt, refl)
+read-there l pre [] (f ∷ fields) rest w = absurd w
+read-there l pre (row ∷ rows) [] rest w = absurd w
+read-there l pre (row ∷ rows) ((tag, c) ∷ fields) rest w =
+    let more = joined fields ++ rest in
+    let s = whole l pre row tag c more (w .0) in
+    let There : List ℕ → ℕ → Type 0 = λ s at. None (tests l s at rows) × (cut s at rows ≡ fields) in
+    let later = read-there l (longer l pre row tag c more (w .0)) rows fields rest (w .1) in
+    let here : There s (length pre + 3 + row .len) =
+    subst (There s) (longer-length l pre row tag c more (w .0)) (subst (λ s. There s (length (longer l pre row tag c more (w .0)))) (longer-rest l pre row tag c more (w .0)) later) in
+    let split : s ≡ pre ++ (((tag ∷ twoBytes (length c)) ++ c ++ joined fields) ++ rest) = ap (λ t. pre ++ t) (sym (append-assoc ((tag ∷ twoBytes (length c)) ++ c) (joined fields) rest)) in
+    subst (λ s. None (tests l s (length pre) (row ∷ rows)) × (cut s (length pre) (row ∷ rows) ≡ (tag, c) ∷ fields)) split (
+      none-join (rowTests l s (length pre) row) _ (row-there l pre row tag c more (w .0)) (here .0),
+      ap₂ _∷_ (ap₂ (λ (g : ℕ) (b : List ℕ). (g, b)) (sym (w .0 .tag)) (content-there l pre row tag c more (w .0))) (here .1),
+    )
+
 -- what is written is read back: no field is refused, they end with the bytes, and they are the fields written
 pub record Back (l : Level) (s : List ℕ) (at : ℕ) (rows : List Row) (fields : List (ℕ × List ℕ)) : Type 0 where
   pub accepted : None (tests l s at rows)
@@ -153,21 +173,9 @@ pub record Back (l : Level) (s : List ℕ) (at : ℕ) (rows : List Row) (fields 
   pub same : cut s at rows ≡ fields
 
 pub read-back : (l : Level) (pre : List ℕ) (rows : List Row) (fields : List (ℕ × List ℕ)) → Fits l rows fields → Back l (pre ++ joined fields) (length pre) rows fields
-unfolding tests after cut joined
-read-back l pre [] [] w = record { accepted = tt; ends = sym (ap length (append-nil pre)); same = refl }
-read-back l pre [] (f ∷ fields) w = absurd w
-read-back l pre (row ∷ rows) [] w = absurd w
-read-back l pre (row ∷ rows) ((tag, c) ∷ fields) w =
-    let rest = joined fields in
-    let later = read-back l (longer l pre row tag c rest (w .0)) rows fields (w .1) in
-    let here : Back l (whole l pre row tag c rest (w .0)) (length pre + 3 + row .len) rows fields =
-    subst (λ n. Back l (whole l pre row tag c rest (w .0)) n rows fields) (longer-length l pre row tag c rest (w .0))
-    (subst (λ s. Back l s (length (longer l pre row tag c rest (w .0))) rows fields) (longer-rest l pre row tag c rest (w .0)) later) in
-    record {
-      accepted = none-join (rowTests l (whole l pre row tag c rest (w .0)) (length pre) row) _ (row-there l pre row tag c rest (w .0)) (here .accepted);
-      ends = here .ends;
-      same = ap₂ _∷_ (ap₂ (λ (g : ℕ) (b : List ℕ). (g, b)) (sym (w .0 .tag)) (content-there l pre row tag c rest (w .0))) (here .same);
-    }
+read-back l pre rows fields w =
+    let there = subst (λ t. None (tests l (pre ++ t) (length pre) rows) × (cut (pre ++ t) (length pre) rows ≡ fields)) (append-nil (joined fields)) (read-there l pre rows fields [] w) in
+    record { accepted = there .0; ends = after-joined l (length pre) rows fields w ∙ sym (length-append pre (joined fields)); same = there .1 }
 
 -- what is read is what was written
 module _ (l : Level) (s : List ℕ) (b : Bytes s) where

@@ -212,12 +212,13 @@ matrix-there k v rest =
     ∙ ap words (take-at c (more ++ rest) len (bytes-length (k .slices .h) ∙ ap (λ n. 2 * n) (v .0 .h .0)))
     ∙ words-bytes (k .slices .h)
 
--- 15 is told by the key, whatever fields follow its own
-pub key-leans : (k : KeyData) → KeyPasses k → (more : List (ℕ × List ℕ)) → leans (levelAt FIRST) (joined (keyFields k ++ more)) ≡ short (levelAt FIRST) (k .sizes .n) (k .sizes .m) (k .slices .h)
+-- 15 is told by the key, whatever bytes or fields follow its own
+pub rest-leans : (k : KeyData) → KeyPasses k → (rest : List ℕ) → leans (levelAt FIRST) (joined (keyFields k) ++ rest) ≡ short (levelAt FIRST) (k .sizes .n) (k .sizes .m) (k .slices .h)
 unfolding joined
-key-leans k v more =
-    ap (leans (levelAt FIRST)) (joined-append (keyFields k) more)
-    ∙ ap (short (levelAt FIRST) (k .sizes .n) (k .sizes .m)) (matrix-there k v (joined more))
+rest-leans k v rest = ap (short (levelAt FIRST) (k .sizes .n) (k .sizes .m)) (matrix-there k v rest)
+
+pub key-leans : (k : KeyData) → KeyPasses k → (more : List (ℕ × List ℕ)) → leans (levelAt FIRST) (joined (keyFields k ++ more)) ≡ short (levelAt FIRST) (k .sizes .n) (k .sizes .m) (k .slices .h)
+key-leans k v more = ap (leans (levelAt FIRST)) (joined-append (keyFields k) more) ∙ rest-leans k v (joined more)
 
 -- a key within the limits is one that passes and whose rows do not lean on each other
 pub valid-passes : (k : KeyData) → ValidKey (levelAt FIRST) k → KeyPasses k

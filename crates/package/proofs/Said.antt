@@ -19,7 +19,7 @@ use Rattle.package.proofs.Target.{replicate-zeros, past-target, target-
 use Rattle.package.proofs.Forms.{package-faithful}
 
 -- y as the content of field 04 says it, or its absence
-target-said : (m : ℕ) (y : List ℕ) → length y ≡ m → targetOf m (words (cond (zeros y) [] (wordBytes y))) ≡ y
+pub target-said : (m : ℕ) (y : List ℕ) → length y ≡ m → targetOf m (words (cond (zeros y) [] (wordBytes y))) ≡ y
 unfolding words all
 target-said m y h = pick (zeros y) refl
   where

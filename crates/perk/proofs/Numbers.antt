@@ -40,8 +40,8 @@ zero-told number told rows f same e z = zero-done rows f (go (firstOf rows) refl
     go (Refused q) d = ap numberOf d ∙ sym (same q) ∙ sym (ap (λ x. number (told x)) d) ∙ sym (ap number e) ∙ z
 
 -- what is put of such an answer is the outcome's
-pub put : {A : Type 0} (or : A → ℕ → ℕ × ℕ) (a : A) (old : ℕ) {s : List ℕ} {o : A × List ℕ} {r k : ℕ} → (r, k) ≡ or a old → (a, s) ≡ o → (r, (s, k)) ≡ answered or o old
-put {A} or a old {s = s} e f = ap (λ (p : ℕ × ℕ). (p .0, (s, p .1))) e ∙ ap (λ (o : A × List ℕ). answered or o old) f
+pub put : {A B : Type 0} (or : A → B → ℕ × B) (a : A) (old : B) {s : List ℕ} {o : A × List ℕ} {r : ℕ} {k : B} → (r, k) ≡ or a old → (a, s) ≡ o → (r, (s, k)) ≡ answered or o old
+put {A} {B} or a old {s = s} e f = ap (λ (p : ℕ × B). (p .0, (s, p .1))) e ∙ ap (λ (o : A × List ℕ). answered or o old) f
 
 -- the number k of the answer r is 0 exactly when r is Done, and j above 0 exactly when r is refusal j
 module _ {r : Answer} {k : ℕ} (e : k ≡ numberOf r) where

@@ -3,6 +3,8 @@ use mathlib.Core.List.{List}
 use Prim.Native.Nat.{ℕ}
 use Rattle.rank.specs.declared.Ranked.{Ranked}
 use Rattle.rank.specs.declared.Ranked.the-variants as ranked
+use Rattle.joining.specs.declared.Joined.{Joined}
+use Rattle.joining.specs.declared.Joined.the-variants as joined
 use Rattle.writer.specs.declared.Written.{Written}
 use Rattle.writer.specs.declared.Written.the-variants as written
 
@@ -16,6 +18,11 @@ abbrev pub lengthOr : Written → ℕ → ℕ × ℕ
 lengthOr (written.Length n) old = (0, n)
 lengthOr (written.Refused q) old = (q .number, old)
 
--- of an outcome: the number, and what is left in the output and where the rank or the length goes
-abbrev pub answered : {A : Type 0} → (A → ℕ → ℕ × ℕ) → A × List ℕ → ℕ → ℕ × (List ℕ × ℕ)
+-- the same with the length and the number of groups
+abbrev pub sizeOr : Joined → ℕ × ℕ → ℕ × (ℕ × ℕ)
+sizeOr (joined.Size s) old = (0, (s .length, s .groups))
+sizeOr (joined.Refused q) old = (q .number, old)
+
+-- of an outcome: the number, and what is left in the output and where the rank, the length or the size goes
+abbrev pub answered : {A B : Type 0} → (A → B → ℕ × B) → A × List ℕ → B → ℕ × (List ℕ × B)
 answered or o old = (or (o .0) old .0, (o .1, or (o .0) old .1))

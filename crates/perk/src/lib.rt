@@ -14,10 +14,14 @@ ghost use Rattle.verifier.specs.Entry.{verifyOutcome, verifyLeans, Judges};
 ghost use Rattle.package.specs.Reading.{packageReader, checkFileReader, reading, fieldPart};
 ghost use Rattle.checkfile.specs.Checking.{checkNumber, checking};
 ghost use Rattle.rank.specs.Entry.{rankOutcome, Tells};
-ghost use Rattle.perk.specs.Files.{SmallSizes, readPut, spanOf};
+ghost use Rattle.bundle.specs.Reading.{reading as readingBundle};
+ghost use Rattle.joining.specs.Entry.{joinOutcome};
+ghost use Rattle.joining.specs.Laws.{ReadBack as ReadJoined};
+ghost use Rattle.perk.specs.Files.{SmallSizes, readPut, SmallBundle, bundlePut, spanOf};
 ghost use Rattle.writer.specs.Entry.{writeOutcome, writeLeans};
 ghost use Rattle.writer.specs.Laws.{ReadBack};
-ghost use Rattle.perk.specs.Answered.{rankOr, lengthOr, answered};
+ghost use Rattle.perk.specs.Answered.{rankOr, lengthOr, sizeOr, answered};
+use joining::Joined;
 use key::Key;
 use package::Read;
 use rank::Ranked;
@@ -193,6 +197,64 @@ pub extern "C" fn perk_read_check_file(
     ensures { λ r. ⌜ (r, (now (n .exit), now (m .exit), now (serial .exit))) ≡ readPut (reading (checkFileReader (levelAt FIRST)) (now (bytes .entry))) (now (n .entry), now (m .entry), now (serial .entry)) ⌝ }
 {
     put_read(package::read_check_file(bytes), n, m, serial)
+}
+
+// The number of the answer of the reader of bundles; n, m and the number of groups are written where it is no refusal.
+fn put_bundle(answer: bundle::Read, n: &mut u32, m: &mut u32, groups: &mut usize) -> u32
+    requires { ⌜ SmallBundle answer ⌝ }
+    ensures { λ r. ⌜ (r, (now (n .exit), now (m .exit), now (groups .exit))) ≡ bundlePut answer (now (n .entry), now (m .entry), now (groups .entry)) ⌝ }
+{
+    match answer {
+        bundle::Read::Fields(contents) => {
+            *n = contents.n as u32;
+            *m = contents.m as u32;
+            *groups = contents.groups;
+            0
+        }
+        bundle::Read::Refused(refusal) => refusal.number,
+    }
+}
+
+// n, m and the number of groups of a bundle.
+#[no_mangle]
+pub extern "C" fn perk_read_bundle(
+    bytes: &[u8],
+    n: &mut u32,
+    m: &mut u32,
+    groups: &mut usize,
+) -> u32
+    ensures { λ r. ⌜ (r, (now (n .exit), now (m .exit), now (groups .exit))) ≡ bundlePut (readingBundle (levelAt FIRST) (now (bytes .entry))) (now (n .entry), now (m .entry), now (groups .entry)) ⌝ }
+{
+    put_bundle(bundle::read_bundle(bytes), n, m, groups)
+}
+
+// The number of an answer; the length and the number of groups are written where it is no refusal.
+fn put_size(answer: Joined, length: &mut usize, groups: &mut usize) -> u32
+    ensures { λ r. ⌜ (r, (now (length .exit), now (groups .exit))) ≡ sizeOr answer (now (length .entry), now (groups .entry)) ⌝ }
+{
+    match answer {
+        Joined::Size(size) => {
+            *length = size.length;
+            *groups = size.groups;
+            0
+        }
+        Joined::Refused(refusal) => refusal.number,
+    }
+}
+
+// The groups of two bundles of one key as one bundle, its length and the number of its groups.
+#[no_mangle]
+pub extern "C" fn perk_join_bundles(
+    first: &[u8],
+    second: &[u8],
+    out: &mut [u8],
+    length: &mut usize,
+    groups: &mut usize,
+) -> u32
+    ensures outcome { λ r. ⌜ (r, (now (out .exit), (now (length .exit), now (groups .exit)))) ≡ answered sizeOr (joinOutcome (levelAt FIRST) (now (first .entry)) (now (second .entry)) (now (out .entry))) (now (length .entry), now (groups .entry)) ⌝ }
+    ensures reads { λ r. ⌜ (r ≡ 0 → ReadJoined (levelAt FIRST) (now (first .entry)) (now (second .entry)) (record { length = now (length .exit); groups = now (groups .exit) }) (now (out .exit))) ⌝ }
+{
+    put_size(joining::join_bundles(first, second, out), length, groups)
 }
 
 // The number of an answer; the length is written where it is no refusal.

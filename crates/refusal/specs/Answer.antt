@@ -2,6 +2,7 @@
 use mathlib.Core.Bool.{Bool, true, false}
 use mathlib.Core.List.{List, [], _∷_}
 use Prim.Native.Nat.{ℕ}
+use lib.Dec.{ltb}
 use Rattle.refusal.specs.declared.Refusal.{Refusal}
 use Rattle.refusal.specs.declared.Answer.{Answer}
 use Rattle.refusal.specs.declared.Answer.the-variants.{Done, Refused}
@@ -21,6 +22,10 @@ abbrev pub firstOf : List (Bool × ℕ) → Answer
 firstOf [] = Done
 firstOf ((false, k) ∷ rows) = firstOf rows
 firstOf ((true, k) ∷ rows) = refusal k
+
+-- 13, an "output slice is shorter than" what is to be written: it has fewer bytes than are needed
+abbrev pub roomRow : (needed room : ℕ) → List (Bool × ℕ)
+roomRow needed room = (ltb room needed, 13) ∷ []
 
 -- "every output slice then holds what it held before": old, or the result where no row applies
 abbrev pub written : {A : Type 0} → Answer → A → A → A

@@ -43,6 +43,12 @@ impl Refusal {
     pub const SPARE_CODE: Refusal = Refusal { number: 16 };
     // a four-byte serial is below 65,536
     pub const LONG_SERIAL: Refusal = Refusal { number: 19 };
+    // a group's serial isn't above the one before
+    pub const SERIAL_ORDER: Refusal = Refusal { number: 20 };
+    // the key fields of two bundles differ
+    pub const OTHER_KEY: Refusal = Refusal { number: 21 };
+    // groups with one serial differ in field 06 or 07
+    pub const GROUPS_DIFFER: Refusal = Refusal { number: 22 };
 }
 
 // What an entry that writes its results answers.

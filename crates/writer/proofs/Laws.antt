@@ -7,7 +7,7 @@ use borrow.Author.Tests.{le-ltb}
 use lib.ListN.{length, drop}
 use Rattle.lists.specs.Lent.{long}
 use Rattle.lists.proofs.Lent.{Long, long-each}
-use Rattle.refusal.specs.Answer.{firstOf, written as kept}
+use Rattle.refusal.specs.Answer.{firstOf, written as kept, roomRow}
 use Rattle.refusal.specs.declared.Answer.the-variants.{Done}
 use Rattle.refusal.proofs.Answers.{after-done}
 use Rattle.field.specs.Level.{FIRST, levelAt}
@@ -18,7 +18,7 @@ use Rattle.package.specs.Written.{KeyData, Group, packageForm, written}
 use Rattle.package.proofs.Opening.{valid-stands}
 use Rattle.package.proofs.Said.{packageData, package-said}
 use Rattle.writer.specs.declared.Written.the-variants.{Length}
-use Rattle.writer.specs.Entry.{lengthAs, writeLent, roomRow, writeChecks, writeRows, writeOutcome}
+use Rattle.writer.specs.Entry.{lengthAs, writeLent, writeChecks, writeRows, writeOutcome}
 use Rattle.writer.specs.Laws.{WritesBack}
 
 -- no check refuses data within the limits

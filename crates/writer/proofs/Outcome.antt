@@ -11,7 +11,7 @@ use lib.Seq.{take-at}
 use Rattle.lists.specs.Lent.{long}
 use Rattle.lists.proofs.Lent.{each-long}
 use Rattle.copying.proofs.Filled.{Stands, first-stands}
-use Rattle.refusal.specs.Answer.{refusal, firstOf, written as kept}
+use Rattle.refusal.specs.Answer.{refusal, firstOf, written as kept, roomRow}
 use Rattle.refusal.specs.declared.Answer.{Answer}
 use Rattle.refusal.specs.declared.Refusal.{Refusal}
 use Rattle.refusal.specs.declared.Answer.the-variants as answer
@@ -32,7 +32,7 @@ use Rattle.package.specs.Written.{packageForm, handed}
 use Rattle.package.proofs.Forms.{package-faithful}
 use Rattle.writer.specs.declared.Written.{Written}
 use Rattle.writer.specs.declared.Written.the-variants.{Length, Refused}
-use Rattle.writer.specs.Entry.{lengthAs, dataOf, writeLent, roomRow, packageBytes, writeChecks, writeRows, writeLeans, writeOutcome}
+use Rattle.writer.specs.Entry.{lengthAs, dataOf, writeLent, packageBytes, writeChecks, writeRows, writeLeans, writeOutcome}
 use Rattle.writer.specs.Laws.{ReadBack}
 
 module _ (key : Key) (lent : KeySlices) (t a : List ℕ) where

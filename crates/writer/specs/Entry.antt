@@ -2,10 +2,9 @@
 use mathlib.Core.Bool.{Bool}
 use mathlib.Core.List.{List, [], _∷_, _++_}
 use Prim.Native.Nat.{ℕ}
-use lib.Dec.{ltb}
 use lib.ListN.{length, drop}
 use Rattle.lists.specs.Lent.{long}
-use Rattle.refusal.specs.Answer.{firstOf, written as kept}
+use Rattle.refusal.specs.Answer.{firstOf, roomRow, written as kept}
 use Rattle.refusal.specs.declared.Answer.{Answer}
 use Rattle.refusal.specs.declared.Answer.the-variants as answer
 use Rattle.field.specs.declared.Level.{Level}
@@ -35,10 +34,6 @@ dataOf key lent serial t a = (record { sizes = key; slices = lent }, record { se
 abbrev pub writeLent : Lengths → KeySlices → (t a : List ℕ) → List (List ℕ × ℕ)
 writeLent len lent t a = keyLent len lent ++ ((t, len .bits) ∷ (a, len .proof) ∷ [])
 
--- 13 "when the output slice is shorter than the package": fewer bytes than are needed
-abbrev pub roomRow : (needed room : ℕ) → List (Bool × ℕ)
-roomRow needed room = (ltb room needed, 13) ∷ []
-
 module _ (l : Level) (key : Key) where
   -- "package out": its bytes
   abbrev pub packageBytes : KeySlices → (serial : ℕ) (t a : List ℕ) → List ℕ
@@ -48,7 +43,7 @@ module _ (l : Level) (key : Key) where
   abbrev pub writeChecks : KeySlices → (t a : List ℕ) → List (Bool × ℕ)
   writeChecks lent t a = sizes l key ++ checks l key (long (writeLent (lengths l key) lent t a)) lent (below 1 t) (withins l (a ∷ [])) Column
 
-  -- and 13 "after all checks of values"
+  -- and 13 "when the output slice is shorter than the package .. after all checks of values"
   abbrev pub writeRows : KeySlices → (serial : ℕ) (t a : List ℕ) (room : ℕ) → List (Bool × ℕ)
   writeRows lent serial t a room = writeChecks lent t a ++ roomRow (length (packageBytes lent serial t a)) room
 

@@ -2,9 +2,10 @@
 //! on some that are refused.
 
 use crate::implementation::{
-    material, written_words, Found, Implementation, ALL, FILED, KEYED, RANK, WRITE,
+    material, written_words, Found, Implementation, ALL, FILED, JOIN, KEYED, RANK, READ_BUNDLE,
+    WRITE,
 };
-use reference::package::package_bytes;
+use reference::package::{bundle_bytes, package_bytes, Group};
 use reference::samples::{Generator, Leaning, Material, Sample};
 use reference::Refusal;
 
@@ -228,6 +229,92 @@ fn packages(generator: &mut Generator) -> Result<(), String> {
     Ok(())
 }
 
+/// Some of the groups of a list, at least one.
+fn some_of(groups: &[Group], generator: &mut Generator) -> Vec<Group> {
+    let mut list = groups.to_vec();
+    let kept = generator.below(list.len());
+    let mut place = 0;
+    list.retain(|_| {
+        place += 1;
+        place == kept + 1 || generator.below(2) == 0
+    });
+    list
+}
+
+/// Two bundles with some groups in common; some differ in a group or in the key,
+/// and some have a byte that is changed or missing.
+fn two_bundles(n: usize, generator: &mut Generator) -> [Vec<u8>; 2] {
+    let m = 1 + generator.below(n - 1);
+    let target = generator.below(2) == 0;
+    let mut sample = Material::of_package(n, m, target, generator).sample;
+    let sizes = sample.key().sizes().expect("sizes that are not refused");
+    let serials = generator.serials(6);
+    let groups: Vec<Group> = serials
+        .into_iter()
+        .map(|serial| generator.group(sizes, serial))
+        .collect();
+    let first = bundle_bytes(sample.key(), &some_of(&groups, generator));
+    let mut second = some_of(&groups, generator);
+    match generator.below(8) {
+        0 => second[0].t[generator.below(n)] ^= 1,
+        1 => second[0].a[generator.below(12)] ^= 1,
+        2 => sample.x[generator.below(n)] ^= 1,
+        3 => second.reverse(),
+        4 => second.insert(0, second[0].clone()),
+        _ => {}
+    }
+    let mut bundles = [first, bundle_bytes(sample.key(), &second)];
+    let bytes = &mut bundles[generator.below(2)];
+    let place = generator.below(bytes.len());
+    match generator.below(8) {
+        0 => bytes.truncate(place),
+        1 => bytes[place] = generator.number() as u8,
+        _ => {}
+    }
+    bundles
+}
+
+/// Tries the entries on bundles, of all sizes with some faults, and with outputs
+/// as long as both bundles, longer and shorter ones.
+fn bundles(generator: &mut Generator) -> Result<(), String> {
+    let (mut done, mut refused) = (0, 0);
+    for n in 2..=64 {
+        for _ in 0..12 {
+            let [first, second] = two_bundles(n, generator);
+            let most = first.len() + second.len();
+            let room = match generator.below(4) {
+                0 => generator.below(most),
+                1 => most + 1 + generator.below(100),
+                _ => most,
+            };
+            let out: Vec<u8> = (0..room).map(|_| generator.number() as u8).collect();
+            let outcomes = ALL
+                .iter()
+                .filter_map(|one| one.bundles)
+                .map(|(read, join)| {
+                    let (mut sizes, mut numbers) = ([0, 0], [99_999; 3]);
+                    let [n, m] = &mut sizes;
+                    let [of_first, length, groups] = &mut numbers;
+                    let mut out = out.clone();
+                    let answers = [
+                        read(&first, n, m, of_first),
+                        join(&first, &second, &mut out, length, groups),
+                    ];
+                    done += usize::from(answers[1] == 0);
+                    refused += usize::from(answers[1] != 0);
+                    (answers, sizes, numbers, out)
+                });
+            if !same(outcomes) {
+                return Err(format!("{READ_BUNDLE} or {JOIN} at n = {n}"));
+            }
+        }
+    }
+    if done < 100 || refused < 100 {
+        return Err(format!("{JOIN} is tried too little: {done}, {refused}"));
+    }
+    Ok(())
+}
+
 /// Tries the entries on bytes, on a check file and its package.
 fn files(file: &[u8], package: &[u8], generator: &mut Generator) -> Result<(), String> {
     for case in 0..64 {
@@ -265,5 +352,6 @@ pub fn agree(file: &[u8], package: &[u8]) -> Result<(), String> {
     ranks(generator)?;
     leaning_keys(generator)?;
     packages(generator)?;
+    bundles(generator)?;
     files(file, package, generator)
 }

@@ -1,5 +1,6 @@
 //! The rows: which entries are called with what.
 
+use crate::bundles::{self, Pair};
 use crate::implementation::{
     material, written_words, Found, OnBytes, OnElements, OnKey, OnMatrix, OnPackage, ALL, FILED,
     KEYED, RANK, WRITE,
@@ -31,6 +32,8 @@ pub struct Inputs {
     pub file: Vec<u8>,
     /// Its package.
     pub package: Vec<u8>,
+    /// Bundles.
+    pub bundles: Vec<Pair>,
 }
 
 impl Inputs {
@@ -50,6 +53,7 @@ impl Inputs {
             materials,
             package: package_of(&file).to_vec(),
             file,
+            bundles: Pair::all(),
         }
     }
 
@@ -175,13 +179,12 @@ fn with_room(
     })
 }
 
-/// Copies of a package.
-fn copying(material: &Material) -> Calls<'static> {
-    let package = package(material);
-    let mut out = vec![0; package.len()];
+/// Copies of bytes.
+pub fn copying(bytes: Vec<u8>) -> Calls<'static> {
+    let mut out = vec![0; bytes.len()];
     Box::new(move |count| {
         for _ in 0..count {
-            black_box(&mut out[..]).copy_from_slice(black_box(&package));
+            black_box(&mut out[..]).copy_from_slice(black_box(&bytes));
         }
     })
 }
@@ -244,7 +247,7 @@ pub fn writings(inputs: &Inputs) -> Vec<Writing<'_>> {
                 calls: [
                     writing(write, material),
                     checking(write, material),
-                    copying(material),
+                    copying(package(material)),
                 ],
             });
         }
@@ -332,5 +335,6 @@ pub fn rows(inputs: &Inputs) -> Vec<Row<'_>> {
             calls: calls.collect(),
         });
     }
+    bundles::rows(&inputs.bundles, &mut rows);
     rows
 }

@@ -18,6 +18,13 @@ pub type OnMatrix = fn(usize, usize, &[u16], &mut [u16], &mut usize) -> u32;
 /// writes too.
 pub type OnPackage = fn(&Material, &mut [u8], &mut usize) -> u32;
 
+/// The entry read bundle: n, m and the number of groups, which it writes.
+pub type OnBundle = fn(&[u8], &mut u32, &mut u32, &mut usize) -> u32;
+
+/// The entry join bundles: the room for the joined bundle, and its length and its
+/// number of groups, which it writes too.
+pub type OnBundles = fn(&[u8], &[u8], &mut [u8], &mut usize, &mut usize) -> u32;
+
 /// What the entries on bytes write.
 #[derive(Clone, Debug, Default, PartialEq)]
 pub struct Found {
@@ -43,7 +50,11 @@ pub const RANK: &str = "rank";
 /// The name of the entry write package.
 pub const WRITE: &str = "write_package";
 
-/// The place of prove among them.
+/// The names of the entries on bundles.
+pub const READ_BUNDLE: &str = "read_bundle";
+pub const JOIN: &str = "join_bundles";
+
+/// The place of prove among those with a key.
 const PROVE: usize = 2;
 
 /// The names of the entries on bytes.
@@ -62,6 +73,8 @@ pub struct Implementation {
     pub rank: Option<OnMatrix>,
     /// The entry write package, where it has it.
     pub write: Option<OnPackage>,
+    /// The entries read bundle and join bundles, where it has them.
+    pub bundles: Option<(OnBundle, OnBundles)>,
     /// The entries with a key.
     pub keyed: [OnKey; 4],
     /// The entries on bytes, where it has them.
@@ -127,10 +140,19 @@ macro_rules! writer {
     }};
 }
 
+/// The entries on bundles of a module.
+macro_rules! bundles {
+    ($module:path) => {{
+        use $module as module;
+        Some((module::read_bundle, module::join_bundles))
+    }};
+}
+
 /// The implementation of a module, with its name, its entries rank and write
-/// package, its entries on bytes, and whether its instructions are counted.
+/// package, its entries on bundles and on bytes, and whether its instructions are
+/// counted.
 macro_rules! implementation {
-    ($module:path, $name:literal, $rank:expr, $write:expr, $filed:expr, $counted:literal) => {{
+    ($module:path, $name:literal, $rank:expr, $write:expr, $bundles:expr, $filed:expr, $counted:literal) => {{
         use $module as module;
         Implementation {
             name: $name,
@@ -138,6 +160,7 @@ macro_rules! implementation {
             product: module::product,
             rank: $rank,
             write: $write,
+            bundles: $bundles,
             keyed: keyed!($module),
             filed: $filed,
             counted: $counted,
@@ -159,6 +182,13 @@ const OTHER_WRITE: Option<OnPackage> = writer!(library::other);
 #[cfg(all(feature = "other", not(other_write_package)))]
 const OTHER_WRITE: Option<OnPackage> = None;
 
+/// The entries on bundles of another build that has them.
+#[cfg(all(feature = "other", other_join_bundles))]
+const OTHER_BUNDLES: Option<(OnBundle, OnBundles)> = bundles!(library::other);
+/// The entries on bundles of another build from before them.
+#[cfg(all(feature = "other", not(other_join_bundles)))]
+const OTHER_BUNDLES: Option<(OnBundle, OnBundles)> = None;
+
 /// The implementations, in the order of the columns.
 pub const ALL: &[Implementation] = &[
     implementation!(
@@ -166,15 +196,17 @@ pub const ALL: &[Implementation] = &[
         "library",
         Some(library::rank),
         writer!(library),
+        bundles!(library),
         filed!(library),
         true
     ),
-    implementation!(packed, "Rust", Some(packed::rank), None, None, true),
+    implementation!(packed, "Rust", Some(packed::rank), None, None, None, true),
     implementation!(
         of_reference,
         "reference",
         Some(of_reference::rank),
         writer!(of_reference),
+        bundles!(of_reference),
         filed!(of_reference),
         false
     ),
@@ -184,6 +216,7 @@ pub const ALL: &[Implementation] = &[
         "other",
         OTHER_RANK,
         OTHER_WRITE,
+        OTHER_BUNDLES,
         filed!(library::other),
         true
     ),

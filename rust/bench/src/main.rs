@@ -18,6 +18,7 @@
 #![forbid(unsafe_code)]
 
 mod agree;
+mod bundles;
 mod cases;
 mod count;
 mod implementation;
@@ -57,6 +58,7 @@ fn time(
     }
     table::shares(&measured);
     table::writing(cases::writings(inputs));
+    table::bundles(bundles::bundlings(&inputs.bundles));
     table::growth(&measured);
     picture.map_or(Ok(()), |path| {
         fs::write(path, svg::picture(&measured)).map_err(|error| format!("{path}: {error}"))

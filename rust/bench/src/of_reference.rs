@@ -56,6 +56,26 @@ pub fn write_package(
     number(reference::write_package(key, serial, t, a, out).map(|answered| *length = answered))
 }
 
+/// The entry read bundle.
+pub fn read_bundle(bytes: &[u8], n: &mut u32, m: &mut u32, groups: &mut usize) -> u32 {
+    number(reference::read_bundle(bytes).map(|contents| {
+        (*n, *m) = (contents.n as u32, contents.m as u32);
+        *groups = contents.groups;
+    }))
+}
+
+/// The entry join bundles.
+pub fn join_bundles(
+    first: &[u8],
+    second: &[u8],
+    out: &mut [u8],
+    length: &mut usize,
+    groups: &mut usize,
+) -> u32 {
+    let answer = reference::join_bundles(first, second, out);
+    number(answer.map(|joined| (*length, *groups) = (joined.length, joined.groups)))
+}
+
 /// Writes what a reader answers.
 fn written(answer: Result<Contents, Refusal>, n: &mut u32, m: &mut u32, serial: &mut u32) -> u32 {
     number(answer.map(|contents| {

@@ -1,5 +1,6 @@
 //! The tables, as Markdown with columns of even width.
 
+use crate::bundles::Bundling;
 use crate::cases::{Writing, ONE_PRODUCT, SIZES};
 use crate::implementation::{other_name, ALL, KEYED, LIBRARY, OTHER, RANK, REFERENCE, RUST};
 use crate::measure::{median, triples, Measured, LEAST, TURNS};
@@ -255,6 +256,77 @@ pub fn writing(packages: Vec<Writing>) {
         &format!("write/(checks + {COPIES} copies)"),
     ];
     let cells = packages.into_iter().map(written).collect();
+    print(heading.map(String::from).to_vec(), cells);
+    println!();
+}
+
+/// What the time of an entry on bundles is compared with: the entry, the
+/// implementation, the sizes and the groups, and the time beyond the key's checks.
+type Beyond = (
+    (&'static str, &'static str, (usize, usize), usize),
+    Option<f64>,
+);
+
+/// Times an entry on bundles: its cells. The times beyond the key's checks before
+/// it stand in a list, to which its own is added.
+fn bundled(bundling: Bundling, before: &mut Vec<Beyond>) -> Vec<String> {
+    let Bundling {
+        entry,
+        name,
+        sizes,
+        groups,
+        bytes,
+        calls,
+    } = bundling;
+    let turns = triples(calls);
+    let of_turns = |of: fn(&[f64; 3]) -> f64| median(turns.iter().map(of).collect());
+    let beyond = of_turns(|[call, key, _]| call - key);
+    let tenth = (entry, name, sizes, groups / 10);
+    let tenth = before.iter().find(|(which, _)| *which == tenth);
+    let growth = tenth.and_then(|&(_, tenth)| ratio(beyond, tenth));
+    before.push(((entry, name, sizes, groups), beyond));
+    vec![
+        format!("`{entry}`"),
+        name.to_string(),
+        format!("({},{})", sizes.0, sizes.1),
+        groups.to_string(),
+        bytes.to_string(),
+        microseconds(of_turns(|turn| turn[0])),
+        microseconds(of_turns(|turn| turn[1])),
+        microseconds(of_turns(|turn| turn[2])),
+        microseconds(beyond),
+        shown(beyond, |beyond| short(beyond / groups as f64)),
+        shown(of_turns(|[call, key, copy]| (call - key) / copy), short),
+        shown(growth, short),
+    ]
+}
+
+/// Times the entries on bundles, and prints the table.
+pub fn bundles(bundlings: Vec<Bundling>) {
+    println!("## Bundles\n");
+    println!("`read_bundle` of a bundle, and `join_bundles` of two bundles that have half of the groups each, their serials in turn; of all serials half have two");
+    println!("bytes. The key's checks are timed by `read_bundle` of the key fields alone, which answers 9 after them; `join_bundles` makes them once, as both bundles have the same. A copy is");
+    println!("`memcpy` of the bundle that is read, or of the joined one. In each turn the three are called one after another, each after one more call that is not");
+    println!("timed. Of the turns' values these are medians too: the time beyond the key's checks, and that time over a copy. The last column is the time beyond the");
+    println!("key's checks over that of a tenth of the groups.\n");
+    let heading = [
+        "entry",
+        "implementation",
+        "(n,m)",
+        "groups",
+        "bytes",
+        "µs",
+        "key µs",
+        "copy µs",
+        "beyond the key µs",
+        "ns per group",
+        "beyond/copy",
+        "growth",
+    ];
+    let mut before = Vec::new();
+    let bundlings = bundlings.into_iter();
+    let cells = bundlings.map(|bundling| bundled(bundling, &mut before));
+    let cells = cells.collect();
     print(heading.map(String::from).to_vec(), cells);
     println!();
 }

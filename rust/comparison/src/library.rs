@@ -173,6 +173,38 @@ macro_rules! build {
             read_check_file = perk_read_check_file;
         }
 
+        /// The entry read bundle: writes n, m and the number of groups.
+        pub fn read_bundle(bytes: &[u8], n: &mut u32, m: &mut u32, groups: &mut usize) -> u32 {
+            // SAFETY: the slice is valid for its length, and the numbers don't
+            // overlap it or one another.
+            unsafe { c::perk_read_bundle(bytes.as_ptr(), bytes.len(), n, m, groups) }
+        }
+
+        /// The entry join bundles: writes the joined bundle, its length and its
+        /// number of groups.
+        pub fn join_bundles(
+            first: &[u8],
+            second: &[u8],
+            out: &mut [u8],
+            length: &mut usize,
+            groups: &mut usize,
+        ) -> u32 {
+            // SAFETY: the slices are valid for their lengths, and neither the
+            // output nor a number overlaps another.
+            unsafe {
+                c::perk_join_bundles(
+                    first.as_ptr(),
+                    first.len(),
+                    second.as_ptr(),
+                    second.len(),
+                    out.as_mut_ptr(),
+                    out.len(),
+                    length,
+                    groups,
+                )
+            }
+        }
+
         /// The entry field of a package: writes where the part starts in the
         /// bytes, and answers its length.
         pub fn field(bytes: &[u8], tag: u8, start: &mut usize) -> usize {

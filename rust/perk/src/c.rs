@@ -180,6 +180,27 @@ macro_rules! declarations {
 
             #[link_name = concat!($prefix, "perk_check")]
             pub fn perk_check(bytes: *const u8, bytes_len: usize) -> u32;
+
+            #[link_name = concat!($prefix, "perk_read_bundle")]
+            pub fn perk_read_bundle(
+                bytes: *const u8,
+                bytes_len: usize,
+                n: *mut u32,
+                m: *mut u32,
+                groups: *mut usize,
+            ) -> u32;
+
+            #[link_name = concat!($prefix, "perk_join_bundles")]
+            pub fn perk_join_bundles(
+                first: *const u8,
+                first_len: usize,
+                second: *const u8,
+                second_len: usize,
+                out: *mut u8,
+                out_len: usize,
+                length: *mut usize,
+                groups: *mut usize,
+            ) -> u32;
         }
     };
 }

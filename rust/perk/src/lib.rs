@@ -189,6 +189,9 @@
 //! # }
 //! ```
 //!
+//! To join packages, or bundles of packages, of one key: [`join_bundles`] has an
+//! example.
+//!
 //! For the coefficients of the polynomials, the values, and products in K:
 //!
 //! ```
@@ -240,11 +243,13 @@ macro_rules! call {
     };
 }
 
+mod bundle;
 #[doc(hidden)]
 pub mod c;
 mod package;
 mod refusal;
 
+pub use bundle::{join_bundles, read_bundle, Bundle, Joined};
 pub use package::{
     check, field, package_of, read_check_file, read_package, write_package, Contents,
     LARGEST_PACKAGE_BYTES,

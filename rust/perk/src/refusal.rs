@@ -39,7 +39,8 @@ pub enum Refusal {
     /// 12: bytes follow the last field.
     BytesFollow = 12,
     /// 13: the output is shorter than what is to be written. Of
-    /// [`write_package`](crate::write_package), after all its other refusals.
+    /// [`write_package`](crate::write_package) and
+    /// [`join_bundles`](crate::join_bundles), after all their other refusals.
     ShortOutput = 13,
     /// 14: the field 04 of a file is present, and all its elements are zero.
     ZeroTarget = 14,
@@ -52,11 +53,20 @@ pub enum Refusal {
     SpareCode = 16,
     /// 19: a serial of four bytes is below 65536, so that it fits two.
     LongSerial = 19,
+    /// 20: the serial of a group of a bundle is not above that of the group before
+    /// it. An equal one is not.
+    SerialOrder = 20,
+    /// 21: the two bundles have different key fields, fields 01 to 04. Of
+    /// [`join_bundles`](crate::join_bundles), after all refusals of both bundles.
+    OtherKey = 21,
+    /// 22: two groups with one serial differ in t or a, the fields 06 and 07. Of
+    /// [`join_bundles`](crate::join_bundles).
+    GroupsDiffer = 22,
 }
 
 impl Refusal {
     /// All refusals, in the order of their numbers.
-    pub const ALL: [Refusal; 17] = [
+    pub const ALL: [Refusal; 20] = [
         Refusal::SizeN,
         Refusal::SizeM,
         Refusal::SliceLength,
@@ -74,9 +84,12 @@ impl Refusal {
         Refusal::DependentRows,
         Refusal::SpareCode,
         Refusal::LongSerial,
+        Refusal::SerialOrder,
+        Refusal::OtherKey,
+        Refusal::GroupsDiffer,
     ];
 
-    /// Its number, 1 to 16 or 19, which the C function returns.
+    /// Its number, 1 to 16 or 19 to 22, which the C function returns.
     pub const fn number(self) -> u32 {
         self as u32
     }
@@ -119,6 +132,9 @@ impl fmt::Display for Refusal {
             }
             Refusal::SpareCode => "a position is a spare code, n to 2^d - 1, which names no column",
             Refusal::LongSerial => "a serial of four bytes is below 65536, so that it fits two",
+            Refusal::SerialOrder => "a group's serial is not above the one before it",
+            Refusal::OtherKey => "the two bundles have different key fields",
+            Refusal::GroupsDiffer => "two groups with one serial differ in t or a",
         })
     }
 }

@@ -8,7 +8,7 @@ use crate::elimination::cleared;
 use crate::key::{bits, elements_of_f, elements_of_k, judge_columns, rows, witness, Key, Sizes};
 use crate::large_field::{COORDINATES, K};
 use crate::lent;
-use crate::package::package_bytes;
+use crate::package::{package_bytes, Bundle, Joined};
 use crate::polynomial::Polynomial;
 use crate::refusal::Refusal;
 use crate::small_field::F;
@@ -227,4 +227,37 @@ pub fn write_package(
     let room = out.get_mut(..package.len()).ok_or(Refusal::ShortOutput)?;
     room.copy_from_slice(&package);
     Ok(package.len())
+}
+
+/// The bundle with "every group of either, once, in rising serial": "Groups equal
+/// in all fields become one." 21 "when the key fields differ"; 22 "when groups with
+/// one serial differ in field 06 or 07, after 21".
+fn joined(first: Bundle, second: Bundle) -> Result<Bundle, Refusal> {
+    if first.key != second.key {
+        return Err(Refusal::OtherKey);
+    }
+    let mut groups = [first.groups, second.groups].concat();
+    groups.sort();
+    groups.dedup();
+    let mut neighbours = groups.windows(2);
+    if neighbours.any(|pair| pair[0].serial == pair[1].serial) {
+        return Err(Refusal::GroupsDiffer);
+    }
+    Ok(Bundle { groups, ..first })
+}
+
+/// The entry join bundles: "The join answers the length and the number of groups;
+/// output bytes beyond that length stay." "The first bundle's refusal comes before
+/// the second's. 13 applies last, to the joined length."
+pub fn join_bundles(first: &[u8], second: &[u8], out: &mut [u8]) -> Result<Joined, Refusal> {
+    let read = |bytes| Bundle::judged(bytes).map_err(|refused| refused.refusal);
+    let bundle = joined(read(first)?, read(second)?)?;
+
+    let bytes = bundle.bytes();
+    let room = out.get_mut(..bytes.len()).ok_or(Refusal::ShortOutput)?;
+    room.copy_from_slice(&bytes);
+    Ok(Joined {
+        length: bytes.len(),
+        groups: bundle.groups.len(),
+    })
 }

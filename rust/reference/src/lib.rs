@@ -4,13 +4,13 @@
 //!
 //! Each function names the sentence of the specification that it follows;
 //! quotes are of the specification's document 01, and about the second level,
-//! serials of four bytes, the target y, spare codes, the rank of H and the
-//! writer of packages of its document 02. The methods are the plainest ones:
+//! serials of four bytes, the target y, spare codes, the rank of H, bundles and
+//! the writer of packages of its document 02. The methods are the plainest ones:
 //! long products and long divisions for both fields, general polynomials over K,
 //! sums as they are written, readers that cut the bytes into fields first and
-//! judge the fields afterwards, and a writer that joins all fields first and
-//! looks at the room for them afterwards. Nothing here is meant to be quick or to
-//! run in constant time.
+//! judge the fields afterwards, a join of bundles that sorts the groups of both,
+//! and writers that join all fields first and look at the room for them
+//! afterwards. Nothing here is meant to be quick or to run in constant time.
 //!
 //! - [`level`]: what the two levels fix of the fields;
 //! - [`small_field`] and [`large_field`]: the fields F and K of a level;
@@ -21,7 +21,7 @@
 //! - [`constraint`]: the n + m polynomials and the verifier's n + m values;
 //! - [`check_zero`]: the proof a and the verifier's equation;
 //! - [`entries`]: the public entries with their refusals;
-//! - [`package`]: the readers, and the bytes of packages and check files;
+//! - [`package`]: the readers, and the bytes of packages, check files and bundles;
 //! - [`perkcheck`]: the line that the program `perkcheck` prints;
 //! - [`samples`] and [`vectors`]: seeded test data and the files of `vectors/`;
 //! - [`examples`]: what the program `examples_run` prints;
@@ -47,11 +47,13 @@ pub mod samples;
 pub mod small_field;
 pub mod vectors;
 
-pub use entries::{constraints, product, prove, rank, sum, values, verify, write_package, Verdict};
+pub use entries::{
+    constraints, join_bundles, product, prove, rank, sum, values, verify, write_package, Verdict,
+};
 pub use key::Key;
 pub use package::{
-    field, field_range, judge_check_file, judge_package, read_check_file, read_package, Contents,
-    Place, Refused,
+    field, field_range, judge_bundle, judge_check_file, judge_package, read_bundle,
+    read_check_file, read_package, Bundle, BundleContents, Contents, Group, Joined, Place, Refused,
 };
 pub use perkcheck::{check, perkcheck_line};
 pub use refusal::Refusal;

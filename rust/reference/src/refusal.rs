@@ -30,7 +30,8 @@ pub enum Refusal {
     FieldLength,
     /// 12: "bytes follow the last field".
     BytesFollow,
-    /// 13: "when the output slice is shorter than the package".
+    /// 13: "when the output slice is shorter than the package", and of the join
+    /// of bundles "13 applies last, to the joined length".
     ShortOutput,
     /// 14: "field 04 is present and all its elements are zero".
     ZeroTarget,
@@ -41,11 +42,17 @@ pub enum Refusal {
     SpareCode,
     /// 19: "a four-byte serial is below 65,536".
     LongSerial,
+    /// 20: "when a group's serial isn't above the one before".
+    SerialOrder,
+    /// 21: "when the key fields differ".
+    OtherKey,
+    /// 22: "when groups with one serial differ in field 06 or 07".
+    GroupsDiffer,
 }
 
 impl Refusal {
     /// All refusals in the order of their numbers.
-    pub const ALL: [Refusal; 17] = [
+    pub const ALL: [Refusal; 20] = [
         Refusal::SizeN,
         Refusal::SizeM,
         Refusal::SliceLength,
@@ -63,6 +70,9 @@ impl Refusal {
         Refusal::DependentRows,
         Refusal::SpareCode,
         Refusal::LongSerial,
+        Refusal::SerialOrder,
+        Refusal::OtherKey,
+        Refusal::GroupsDiffer,
     ];
 
     /// The column "Number" of the table.
@@ -85,6 +95,9 @@ impl Refusal {
             Refusal::DependentRows => 15,
             Refusal::SpareCode => 16,
             Refusal::LongSerial => 19,
+            Refusal::SerialOrder => 20,
+            Refusal::OtherKey => 21,
+            Refusal::GroupsDiffer => 22,
         }
     }
 }

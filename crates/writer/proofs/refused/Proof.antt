@@ -1,12 +1,12 @@
 use mathlib.Core.Path.{_≡_, sym, _∙_}
 use native.Mathlib.Omega.{arith}
 use lib.ListN.{length}
-use Rattle.refusal.specs.Answer.{firstOf}
+use Rattle.refusal.specs.Answer.{firstOf, roomRow}
 use Rattle.refusal.specs.declared.Answer.the-variants.{Done}
 use Rattle.refusal.proofs.Answers.{after-refused}
 use Rattle.field.specs.Level.{FIRST, levelAt}
 use Rattle.key.specs.Key.{keySlices}
-use Rattle.writer.specs.Entry.{roomRow, packageBytes, writeChecks}
+use Rattle.writer.specs.Entry.{packageBytes, writeChecks}
 use Rattle.writer.proofs.Outcome.{stated, room-short, room-enough}
 use borrow.Author.Needs.{needs}
 use Rattle.writer.proofs.refused.Statement.{statement}

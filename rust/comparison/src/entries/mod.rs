@@ -3,12 +3,14 @@
 //! - [`codes`], [`keyed`], [`faults`], [`leaning`], [`lengths`], [`rounds`] and
 //!   [`witnesses`]: what the entries that take a key have in common;
 //! - [`files`]: what the entries that take the bytes of a file have in common;
+//! - [`bundles`]: the entries that take bundles;
 //! - the others: one entry, or a few of one form.
 
 use crate::case::{Entry, Stated};
 use reference::large_field::COORDINATES;
 use reference::Refusal;
 
+pub mod bundles;
 pub mod check;
 pub mod codes;
 pub mod completeness;
@@ -31,8 +33,9 @@ pub mod verify;
 pub mod witnesses;
 pub mod write;
 
-/// All entries, in the order of the specification, then rank, write package, the
-/// check of perkcheck, demand 3, completeness, and packages that are read back.
+/// All entries, in the order of the specification, then rank, write package, those
+/// of bundles, the check of perkcheck, demand 3, completeness, and packages and
+/// bundles that are read back.
 pub const ALL: &[Entry] = &[
     field::SUM,
     field::PRODUCT,
@@ -45,10 +48,15 @@ pub const ALL: &[Entry] = &[
     package_field::FIELD,
     rank::RANK,
     write::WRITE,
+    bundles::read::READ_BUNDLE,
+    bundles::join::JOIN_BUNDLES,
     check::CHECK,
     demand_3::BOTH_FACTS,
     completeness::COMPLETENESS,
     read_back::READ_BACK,
+    bundles::package::PACKAGE_AS_BUNDLE,
+    bundles::refused::REFUSED_BUNDLES,
+    bundles::read_back::READ_BACK,
 ];
 
 /// The answer without a refusal; of verify and check, Accepted.
@@ -57,7 +65,8 @@ const DONE: u32 = 0;
 /// 8: "some top coefficient of the n + m polynomials isn't zero".
 const TOP: u32 = 8;
 
-/// 13: "when the output slice is shorter than the package".
+/// 13: "when the output slice is shorter than the package", or than the joined
+/// bundle.
 const SHORT: u32 = 13;
 
 /// 15: "when some coefficients from F, not all zero, combine the rows of H to
@@ -66,6 +75,12 @@ const DEPENDENT: u32 = 15;
 
 /// 16: "when prove is lent a spare code and none is too large".
 const SPARE: u32 = 16;
+
+/// 21: the key fields of two bundles differ.
+const OTHER_KEY: u32 = 21;
+
+/// 22: two groups with one serial differ in field 06 or 07.
+const GROUPS_DIFFER: u32 = 22;
 
 /// The answer Rejected of verify and check.
 const REJECTED: u32 = 255;

@@ -1,5 +1,6 @@
 //! The entries read package and read check file.
 
+use super::bundles::package::BUNDLES;
 use super::files::fields::{content_of, serial_field, set_serial, walked};
 use super::files::{self, groups, table, File, Reader, BYTES};
 use super::{number, stated, DONE, REJECTED};
@@ -59,7 +60,7 @@ pub const READ_PACKAGE: Entry = Entry {
             table::cell(bytes, reference::judge_package(bytes))
         },
     }),
-    groups: || groups_of::<ReadPackage>(),
+    groups: || [groups_of::<ReadPackage>(), vec![BUNDLES]].concat(),
     ..ENTRY
 };
 

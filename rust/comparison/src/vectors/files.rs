@@ -224,7 +224,7 @@ impl Comparison<'_> {
     }
 
     /// A check file with its line: the readers, the fields, check and verify, its
-    /// package written again, and the program.
+    /// package written again and as a bundle, and the program.
     pub fn check_file(&mut self, file: &List, line: &Line) -> Result<(), String> {
         let fields = Fields::of(file)?;
         let stated = [&line.n, &line.m, &line.serial];
@@ -243,6 +243,7 @@ impl Comparison<'_> {
         self.verify(&slices, line)?;
         let package = fields.package(file);
         self.written_again([line.n.value(0), m], &slices, &line.serial, &package)?;
+        self.package_as_bundle(&package, &line.n, &line.m)?;
         self.program(file, line)
     }
 

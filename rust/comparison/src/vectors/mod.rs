@@ -7,8 +7,10 @@
 //! - `calls`: the calls, and what is compared after each;
 //! - `files`: the check files;
 //! - `ranks`: the file of ranks, and keys whose rows lean on each other;
-//! - `writes`: the file of packages, and packages that are written again.
+//! - `writes`: the file of packages, and packages that are written again;
+//! - `bundles`: the file of bundles, and packages as bundles.
 
+mod bundles;
 mod calls;
 mod files;
 pub mod list;
@@ -50,10 +52,10 @@ fn text_name(n: usize, m: usize) -> String {
 }
 
 /// The files that are compared: the text files, that of ranks, that of packages,
-/// and the check file of key A.
+/// that of bundles, and the check file of key A.
 pub fn names() -> Vec<String> {
     let texts = SIZES.iter().map(|&(n, m)| text_name(n, m));
-    let others = [ranks::NAME, writes::NAME, KEY_A].map(str::to_string);
+    let others = [ranks::NAME, writes::NAME, bundles::NAME, KEY_A].map(str::to_string);
     texts.chain(others).collect()
 }
 
@@ -144,6 +146,7 @@ pub fn compare(
         KEY_A => comparison.key_a(content),
         ranks::NAME => comparison.ranks(content),
         writes::NAME => comparison.writes(content),
+        bundles::NAME => comparison.bundles(content),
         _ => comparison.text_file(name, content),
     };
     let mut outcome = comparison.outcome;

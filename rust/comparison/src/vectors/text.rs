@@ -312,24 +312,52 @@ impl<'a> Lines<'a> {
         Ok(list)
     }
 
+    /// Adds the bytes of the next line, which has the name of the list; the
+    /// number of the line.
+    fn add_bytes(&mut self, list: &mut List) -> Result<usize, String> {
+        let name = list.name;
+        let (line, values) = self.next(name)?;
+        let bytes = match values[..] {
+            [value] => hexadecimal(value, 2).filter(|bytes| bytes.len() <= BYTES),
+            _ => None,
+        };
+        let Some(bytes) = bytes else {
+            return error(line, format!("{name} has wrong bytes"));
+        };
+        let bytes = bytes.into_iter().enumerate();
+        list.words
+            .extend(bytes.map(|(place, value)| Word { value, line, place }));
+        Ok(line)
+    }
+
     /// The bytes of a file, on one line or more.
     pub fn bytes(&mut self, name: &'static str) -> Result<List, String> {
         let words = Vec::new();
         let mut list = List { name, words };
         while list.is_empty() || self.next_name() == Some(name) {
-            let (line, values) = self.next(name)?;
-            let bytes = match values[..] {
-                [value] => hexadecimal(value, 2).filter(|bytes| bytes.len() <= BYTES),
-                _ => None,
-            };
-            let Some(bytes) = bytes else {
-                return error(line, format!("{name} has wrong bytes"));
-            };
-            let bytes = bytes.into_iter().enumerate();
-            list.words
-                .extend(bytes.map(|(place, value)| Word { value, line, place }));
+            self.add_bytes(&mut list)?;
         }
         Ok(list)
+    }
+
+    /// A slice of bytes of any length: its length, then its bytes, as many on
+    /// each line but the last as a line can have.
+    pub fn slice(
+        &mut self,
+        length: &'static str,
+        name: &'static str,
+    ) -> Result<(List, List), String> {
+        let length = self.single(length, 1, Form::Decimal)?;
+        let words = Vec::new();
+        let mut list = List { name, words };
+        while list.len() < length.value(0) {
+            let before = list.len();
+            let line = self.add_bytes(&mut list)?;
+            if list.len() != length.value(0).min(before + BYTES) {
+                return error(line, format!("{name} has a wrong number of bytes"));
+            }
+        }
+        Ok((length, list))
     }
 
     /// A line of perkcheck.

@@ -171,7 +171,7 @@ impl Comparison<'_> {
     }
 
     /// A package of the file: in an output of its length and in a longer one,
-    /// refused in a shorter one, and read.
+    /// refused in a shorter one, read, and as a bundle.
     fn package(&mut self, part: &Written) -> Result<(), String> {
         let Written {
             inputs,
@@ -195,7 +195,8 @@ impl Comparison<'_> {
             "read package",
             package,
             [&inputs.n, &inputs.m, &inputs.serial],
-        )
+        )?;
+        self.package_as_bundle(package, &inputs.n, &inputs.m)
     }
 
     /// The file of packages: parts with a package, then parts with a refusal, at

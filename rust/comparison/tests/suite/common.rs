@@ -82,3 +82,14 @@ pub fn with_library(entry: Entry, library: Call, groups: fn() -> Vec<Group>) -> 
         ..entry
     }
 }
+
+/// Hands over one in so many cases of a group.
+pub fn one_in(count: usize, group: &Group, generator: &mut Generator, each: &mut dyn FnMut(Case)) {
+    let mut turn = 0;
+    (group.cases)(generator, &mut |case| {
+        turn += 1;
+        if turn % count == 0 {
+            each(case);
+        }
+    });
+}

@@ -2,6 +2,8 @@
 //! library.
 
 use comparison::case::Entry;
+use comparison::entries::bundles::join::JOIN_BUNDLES;
+use comparison::entries::bundles::read::READ_BUNDLE;
 use comparison::entries::{
     check, constraints, field, package_field, prove, rank, readers, values, write, ALL,
 };
@@ -263,6 +265,117 @@ fn every_digit_of_a_package_altered() {
     }
 }
 
+/// The kinds of parts of the file of bundles.
+const KINDS: [&str; 4] = ["case", "refused", "join", "join_refused"];
+
+/// The first parts of each kind of the file of bundles, so many of each.
+fn some_bundles(counts: [usize; 4]) -> String {
+    let whole = text("bundle.txt");
+    let mut parts: [Vec<String>; 4] = Default::default();
+    let mut kind = 0;
+    for line in whole.lines() {
+        let first = line.split(' ').next();
+        let begins = KINDS.iter().position(|&name| Some(name) == first);
+        if let Some(begun) = begins {
+            kind = begun;
+            parts[kind].push(String::new());
+        }
+        let part = parts[kind].last_mut().expect("a part has begun");
+        part.push_str(line);
+        part.push('\n');
+    }
+    let parts = parts.iter().zip(counts);
+    parts.map(|(list, count)| list[..count].concat()).collect()
+}
+
+#[test]
+fn every_word_of_bundles_altered() {
+    let name = "bundle.txt";
+    let content = some_bundles([6, 30, 6, 30]);
+    assert_eq!(difference(name, &content), None);
+    let mut kind = "";
+    let mut words_altered = 0;
+    for (index, line) in content.lines().enumerate() {
+        let (first, value) = line.split_once(' ').expect("a name and a value");
+        if KINDS.contains(&first) {
+            kind = first;
+            continue;
+        }
+        // A call may be refused with other bytes and another output, and a
+        // bundle with another a has the same numbers.
+        let tells = match kind {
+            "refused" | "join_refused" => {
+                first == "answer" || first.ends_with("_length") && first != "out_length"
+            }
+            _ => first != "bundle",
+        };
+        if !tells {
+            continue;
+        }
+        let other = with_line(&content, index, &altered(line, 1));
+        let found = difference(name, &other);
+        assert!(found.is_some(), "line {}: {first} {value}", index + 1);
+        words_altered += 1;
+    }
+    assert!(words_altered > 150, "{words_altered}");
+}
+
+#[test]
+fn every_digit_of_a_joined_bundle_altered() {
+    let name = "bundle.txt";
+    let content = some_bundles([1, 1, 3, 1]);
+    let mut digits = 0;
+    for (index, line) in content.lines().enumerate() {
+        let Some(bytes) = line.strip_prefix("joined ") else {
+            continue;
+        };
+        for at in line.len() - bytes.len()..line.len() {
+            let digit = if &line[at..=at] == "0" { "1" } else { "0" };
+            let other = [&line[..at], digit, &line[at + 1..]].concat();
+            let found = difference(name, &with_line(&content, index, &other));
+            let place = format!("joined, line {}, ", index + 1);
+            assert!(found.is_some_and(|text| text.starts_with(&place)), "{at}");
+            digits += 1;
+        }
+    }
+    assert!(digits > 200, "{digits}");
+}
+
+#[test]
+fn other_parts_of_bundles() {
+    let name = "bundle.txt";
+    let right = some_bundles([1; 4]);
+    assert_eq!(difference(name, &right), None);
+    // A kind that is missing, in another order, or of which a line is missing,
+    // is there twice, or has too few bytes.
+    for kind in 0..KINDS.len() {
+        let mut counts = [1; 4];
+        counts[kind] = 0;
+        assert!(difference(name, &some_bundles(counts)).is_some());
+    }
+    let lines: Vec<&str> = right.lines().collect();
+    for index in 0..lines.len() {
+        let mut without = lines.clone();
+        without.remove(index);
+        let mut twice = lines.clone();
+        twice.insert(index, lines[index]);
+        let mut shorter = lines.clone();
+        shorter[index] = &lines[index][..lines[index].len() - 2];
+        for (list, bytes) in [(without, false), (twice, false), (shorter, true)] {
+            if bytes && lines[index].len() < 40 {
+                continue;
+            }
+            let other = list.join("\n") + "\n";
+            assert!(difference(name, &other).is_some(), "line {}", index + 1);
+        }
+    }
+    let end = right.rfind("join_refused").expect("a refused join");
+    let exchanged = [&right[end..], &right[..end]].concat();
+    for other in [&exchanged, "", "case one\n"] {
+        assert!(difference(name, other).is_some());
+    }
+}
+
 #[test]
 fn every_element_of_y_altered() {
     let mut targets = 0;
@@ -382,6 +495,12 @@ fn wrong_outputs() {
         changed!(rank::RANK, "rank"),
         changed!(write::WRITE, "out"),
         changed!(write::WRITE, "length"),
+        changed!(READ_BUNDLE, "n"),
+        changed!(READ_BUNDLE, "m"),
+        changed!(READ_BUNDLE, "groups"),
+        changed!(JOIN_BUNDLES, "out"),
+        changed!(JOIN_BUNDLES, "length"),
+        changed!(JOIN_BUNDLES, "groups"),
         changed!(readers::READ_PACKAGE, "n"),
         changed!(readers::READ_PACKAGE, "m"),
         changed!(readers::READ_PACKAGE, "serial"),

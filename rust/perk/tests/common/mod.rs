@@ -1,6 +1,8 @@
 //! Words of elements of K, and the keys that the tests use.
 #![allow(dead_code)]
 
+pub mod bundles;
+
 use perk::{Key, Masks, Prover, Refusal, Verdict, WORDS};
 use std::mem::take;
 

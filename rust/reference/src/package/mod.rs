@@ -1,19 +1,24 @@
-//! The package and the check file: readers, and the bytes of written ones.
+//! The package, the check file and the bundle: readers, and the bytes of written
+//! ones.
 
+mod bundle;
 mod stated;
 mod written;
 
+pub use bundle::{bundle_bytes, judge_bundle, read_bundle, Bundle, BundleContents, Group, Joined};
 pub use stated::{stated_of, tag, Kind, Stated, CHECK_FILE_TAGS, PACKAGE_TAGS, SERIAL_LENGTHS};
 pub use written::{
-    check_fields, check_file_bytes, field_of, head_start, index_of, join, package_bytes,
-    package_fields, package_part, serial_bytes, y_field, WrittenField,
+    check_fields, check_file_bytes, field_of, group_fields, head_start, index_of, join, key_fields,
+    package_bytes, package_fields, package_part, serial_bytes, y_field, WrittenField,
 };
 
 use crate::key::{bits, elements_of_f, elements_of_k, judge_rows, rows, Sizes};
 use crate::refusal::Refusal;
 use crate::small_field::F;
-use stated::FIELDS;
+use stated::{package_stated, FIELDS};
+use std::iter::Peekable;
 use std::ops::Range;
+use std::vec::IntoIter;
 
 /// The bytes of tag and length: "a one-byte tag, a two-byte length".
 pub const HEAD: usize = 3;
@@ -55,6 +60,17 @@ pub struct Refused {
     pub place: Place,
     /// The tag of the field that comes next there; none at the end.
     pub tag: Option<u8>,
+}
+
+impl Refused {
+    /// Refused at this place of the field with this tag.
+    fn at(tag: Option<u8>, place: Place, refusal: Refusal) -> Refused {
+        Refused {
+            refusal,
+            place,
+            tag,
+        }
+    }
 }
 
 /// A piece of the bytes, before anything is judged.
@@ -181,13 +197,8 @@ fn judge_rows_of(content: &[u8], sizes: Sizes) -> Result<(), Refusal> {
     judge_rows(&rows(&elements_of_f(&words(content))?, sizes.n))
 }
 
-/// Accepted bytes.
-struct Judged<'a> {
-    bytes: &'a [u8],
-    sizes: Sizes,
-    /// Each tag, and where the content of its field stands.
-    found: Vec<(u8, Range<usize>)>,
-}
+/// Each tag, and where the content of its field stands.
+type Places = Vec<(u8, Range<usize>)>;
 
 /// Where the content of the field with this tag stands; 0..0 when there is no
 /// such field.
@@ -196,29 +207,38 @@ fn range_of(found: &[(u8, Range<usize>)], tag: u8) -> Range<usize> {
     field.map_or(0..0, |(_, content)| content.clone())
 }
 
-impl<'a> Judged<'a> {
-    /// Judges the bytes: "the readers instead run places P1 to P5 for each
-    /// field in turn, then P6". The rows of H are judged "after all checks of
-    /// field 03 or, where the next byte is 04, of field 04", among the values of
-    /// that field.
-    fn of(bytes: &'a [u8], fields: &[Stated]) -> Result<Judged<'a>, Refused> {
-        let at = |tag| {
-            move |(place, refusal)| Refused {
-                refusal,
-                place,
-                tag,
-            }
-        };
-        let mut pieces = split(bytes).into_iter().peekable();
-        // No length depends on the sizes before 01 tells them.
-        let mut sizes = Sizes { n: 0, m: 0, d: 0 };
-        let mut found: Vec<(u8, Range<usize>)> = Vec::new();
+/// The pieces that are still to be judged, and the sizes that those before them
+/// told.
+struct Pieces<'a> {
+    bytes: &'a [u8],
+    left: Peekable<IntoIter<Piece>>,
+    sizes: Sizes,
+}
+
+impl<'a> Pieces<'a> {
+    /// All pieces of the bytes.
+    fn of(bytes: &'a [u8]) -> Pieces<'a> {
+        Pieces {
+            bytes,
+            left: split(bytes).into_iter().peekable(),
+            // No length depends on the sizes before 01 tells them.
+            sizes: Sizes { n: 0, m: 0, d: 0 },
+        }
+    }
+
+    /// Judges the next pieces as these fields: "the readers instead run places P1
+    /// to P5 for each field in turn". The rows of H are judged "after all checks
+    /// of field 03 or, where the next byte is 04, of field 04", among the values
+    /// of that field.
+    fn take(&mut self, fields: &[Stated]) -> Result<Places, Refused> {
+        let mut found = Places::new();
         for field in fields {
             let there = |piece: &Piece| piece.starts_with(field.tag);
-            if !field.optional || pieces.peek().is_some_and(there) {
-                let at = at(Some(field.tag));
-                let content = judge_head_and_length(pieces.next(), field, sizes).map_err(at)?;
-                sizes = judge_values(field.kind, &bytes[content.clone()], sizes)
+            if !field.optional || self.left.peek().is_some_and(there) {
+                let at = |(place, refusal)| Refused::at(Some(field.tag), place, refusal);
+                let piece = self.left.next();
+                let content = judge_head_and_length(piece, field, self.sizes).map_err(at)?;
+                self.sizes = judge_values(field.kind, &self.bytes[content.clone()], self.sizes)
                     .map_err(|refusal| at((Place::Values, refusal)))?;
                 found.push((field.tag, content));
             }
@@ -226,25 +246,45 @@ impl<'a> Judged<'a> {
             if field.kind == Kind::Target {
                 let h = range_of(&found, tag::H);
                 let last = found.last().map(|&(tag, _)| tag);
-                judge_rows_of(&bytes[h], sizes)
-                    .map_err(|refusal| at(last)((Place::Values, refusal)))?;
+                judge_rows_of(&self.bytes[h], self.sizes)
+                    .map_err(|refusal| Refused::at(last, Place::Values, refusal))?;
             }
         }
+        Ok(found)
+    }
 
+    /// Whether no piece is left.
+    fn ended(&mut self) -> bool {
+        self.left.peek().is_none()
+    }
+}
+
+/// Accepted bytes.
+struct Judged<'a> {
+    bytes: &'a [u8],
+    sizes: Sizes,
+    found: Places,
+}
+
+impl<'a> Judged<'a> {
+    /// Judges the bytes: places P1 to P5 "for each field in turn, then P6".
+    fn of(bytes: &'a [u8], fields: &[Stated]) -> Result<Judged<'a>, Refused> {
+        let mut pieces = Pieces::of(bytes);
+        let found = pieces.take(fields)?;
         // P6: "bytes follow the last field".
-        if pieces.next().is_some() {
-            return Err(at(None)((Place::End, Refusal::BytesFollow)));
+        if !pieces.ended() {
+            return Err(Refused::at(None, Place::End, Refusal::BytesFollow));
         }
         Ok(Judged {
             bytes,
-            sizes,
+            sizes: pieces.sizes,
             found,
         })
     }
 
     /// The bytes as a package.
     fn package(bytes: &'a [u8]) -> Result<Judged<'a>, Refused> {
-        Judged::of(bytes, &FIELDS[..PACKAGE_TAGS.len()])
+        Judged::of(bytes, package_stated())
     }
 
     /// The bytes as a check file.

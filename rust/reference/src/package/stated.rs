@@ -109,14 +109,35 @@ pub const FIELDS: &[Stated] = &[
     }),
 ];
 
-/// The number of fields of a package: those before q.
-const PACKAGE_FIELDS: usize = {
+/// The number of fields before the one with this tag.
+const fn fields_before(tag: u8) -> usize {
     let mut count = 0;
-    while FIELDS[count].tag != tag::Q {
+    while FIELDS[count].tag != tag {
         count += 1;
     }
     count
-};
+}
+
+/// The number of fields of a key: those before the serial.
+const KEY_FIELDS: usize = fields_before(tag::SERIAL);
+
+/// The number of fields of a package: those before q.
+const PACKAGE_FIELDS: usize = fields_before(tag::Q);
+
+/// The fields of a key.
+pub fn key_stated() -> &'static [Stated] {
+    &FIELDS[..KEY_FIELDS]
+}
+
+/// The fields of a group, which a package has after the key's.
+pub fn group_stated() -> &'static [Stated] {
+    &FIELDS[KEY_FIELDS..PACKAGE_FIELDS]
+}
+
+/// The fields of a package.
+pub fn package_stated() -> &'static [Stated] {
+    &FIELDS[..PACKAGE_FIELDS]
+}
 
 /// The first tags of the table.
 const fn tags<const COUNT: usize>() -> [u8; COUNT] {

@@ -79,10 +79,9 @@ pub fn y_field(y: &[u16]) -> WrittenField {
     WrittenField::new(tag::Y, word_bytes(y))
 }
 
-/// The fields of a package in their order; nothing is judged. n and m are
-/// written in one byte each. y: "absent means all zero, and the writer leaves it
-/// out then".
-pub fn package_fields(key: Key<'_>, serial: u32, t: &[u8], a: &[u16]) -> Vec<WrittenField> {
+/// The fields of a key in their order; nothing is judged. n and m are written in
+/// one byte each. y: "absent means all zero, and the writer leaves it out then".
+pub fn key_fields(key: Key<'_>) -> Vec<WrittenField> {
     let mut fields = vec![
         WrittenField::new(tag::SIZES, vec![key.n as u8, key.m as u8]),
         WrittenField::new(tag::H, word_bytes(key.h)),
@@ -91,11 +90,23 @@ pub fn package_fields(key: Key<'_>, serial: u32, t: &[u8], a: &[u16]) -> Vec<Wri
     if key.y.iter().any(|&element| element != 0) {
         fields.push(y_field(key.y));
     }
-    fields.extend([
+    fields
+}
+
+/// The fields of a group, which a package has after the key's: "groups of 05, 06,
+/// 07".
+pub fn group_fields(serial: u32, t: &[u8], a: &[u16]) -> [WrittenField; 3] {
+    [
         WrittenField::new(tag::SERIAL, serial_bytes(serial)),
         WrittenField::new(tag::T, t.to_vec()),
         WrittenField::new(tag::A, word_bytes(a)),
-    ]);
+    ]
+}
+
+/// The fields of a package in their order; nothing is judged.
+pub fn package_fields(key: Key<'_>, serial: u32, t: &[u8], a: &[u16]) -> Vec<WrittenField> {
+    let mut fields = key_fields(key);
+    fields.extend(group_fields(serial, t, a));
     fields
 }
 

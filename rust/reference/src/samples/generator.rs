@@ -1,9 +1,12 @@
 //! The generator of numbers.
 
 use super::independent_rows;
+use crate::key::Sizes;
 use crate::large_field::{Large, K};
 use crate::level::FIRST;
+use crate::package::Group;
 use crate::small_field::Small;
+use std::collections::BTreeSet;
 
 /// The generator splitmix64. The same seed gives the same numbers.
 #[derive(Clone, Debug)]
@@ -79,6 +82,24 @@ impl Generator {
         match number >> 63 {
             0 => u32::from(number as u16),
             _ => number as u32,
+        }
+    }
+
+    /// Serials that strictly rise, of both lengths.
+    pub fn serials(&mut self, count: usize) -> Vec<u32> {
+        let mut serials = BTreeSet::new();
+        while serials.len() < count {
+            serials.insert(self.serial());
+        }
+        serials.into_iter().collect()
+    }
+
+    /// A group of a bundle of these sizes.
+    pub fn group(&mut self, sizes: Sizes, serial: u32) -> Group {
+        Group {
+            serial,
+            t: self.bits(sizes.bit_bytes()),
+            a: self.words(sizes.proof_words()),
         }
     }
 

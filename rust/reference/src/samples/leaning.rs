@@ -40,6 +40,16 @@ impl Leaning {
         }
     }
 
+    /// Its name in the names of test data.
+    pub fn name(self) -> &'static str {
+        match self {
+            Leaning::Multiple => "multiple",
+            Leaning::Sum => "sum",
+            Leaning::ZeroRow => "zero_row",
+            Leaning::AllZero => "all_zero",
+        }
+    }
+
     /// The ways for m rows, at least one.
     pub fn of(m: usize) -> impl Iterator<Item = Leaning> {
         let all = Leaning::ALL.into_iter();

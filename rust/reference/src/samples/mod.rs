@@ -1,10 +1,12 @@
 //! Seeded test data: a generator of numbers, and keys with material.
 
+mod bundles;
 mod generator;
 mod leaning;
 mod lent;
 mod rows;
 
+pub use bundles::{bundle_faults, BundleFault, WrittenBundle};
 pub use generator::Generator;
 pub use leaning::{combination, Leaning};
 pub use lent::{Lent, Material};

@@ -1,6 +1,7 @@
 //! The files of `vectors/`: their forms are described in `docs/vectors.md`.
 //! All of them come from fixed seeds, so a second run gives the same bytes.
 
+pub mod bundle;
 mod cases;
 mod faults;
 mod fields;
@@ -35,6 +36,7 @@ pub fn all() -> Vec<File> {
     }
     files.push((rank::NAME.to_string(), rank::text().into_bytes()));
     files.push((write::NAME.to_string(), write::text().into_bytes()));
+    files.push((bundle::NAME.to_string(), bundle::text().into_bytes()));
     files.extend(Cases::all().files());
     let cases = field_cases::Cases::all();
     files.push(("field_cases/stdin".to_string(), cases.stdin()));

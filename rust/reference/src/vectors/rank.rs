@@ -27,16 +27,6 @@ const LARGE: [(usize, usize, Leaning); 5] = [
     (64, 63, Leaning::Multiple),
 ];
 
-/// The name of a way to lean.
-fn word(leaning: Leaning) -> &'static str {
-    match leaning {
-        Leaning::Multiple => "multiple",
-        Leaning::Sum => "sum",
-        Leaning::ZeroRow => "zero_row",
-        Leaning::AllZero => "all_zero",
-    }
-}
-
 /// Rows that lean in this way, and otherwise not.
 fn leaning(n: usize, m: usize, leaning: Leaning, generator: &mut Generator) -> Vec<u16> {
     let mut h = generator.matrix(n, m);
@@ -108,7 +98,7 @@ fn matrices() -> Vec<Named> {
     for (n, m) in SMALL {
         push(n, m, "independent", generator.matrix(n, m));
         for way in Leaning::of(m) {
-            push(n, m, word(way), leaning(n, m, way, generator));
+            push(n, m, way.name(), leaning(n, m, way, generator));
         }
         push(n, m, "sparse_0", sparse(n, m, generator));
         push(n, m, "sparse_1", sparse(n, m, generator));
@@ -119,7 +109,7 @@ fn matrices() -> Vec<Named> {
     }
     for (n, m, way) in LARGE {
         push(n, m, "independent", generator.matrix(n, m));
-        push(n, m, word(way), leaning(n, m, way, generator));
+        push(n, m, way.name(), leaning(n, m, way, generator));
         match n {
             64 => push(n, m, "disordered", disordered(n, m, generator)),
             _ => {

@@ -1,10 +1,12 @@
 //! The tests of the reference implementation.
 #![forbid(unsafe_code)]
 
+mod bundles;
 mod demand_3;
 mod examples;
 mod field_cases;
 mod fields;
+mod join;
 mod proofs;
 mod rank;
 mod readers;

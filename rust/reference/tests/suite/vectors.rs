@@ -5,9 +5,12 @@ use crate::large;
 use reference::large_field::COORDINATES;
 use reference::package::{tag, words, CHECK_FILE_TAGS};
 use reference::samples::{honest_masks, honest_q, independent, joined_rows, solved, Sample};
-use reference::vectors::{all, rank, text_name, write, Cases, SIZES, TARGETS};
-use reference::{judge_check_file, perkcheck_line, read_package, Contents, Key, Refusal, Refused};
-use std::collections::BTreeMap;
+use reference::vectors::{all, bundle, rank, text_name, write, Cases, SIZES, TARGETS};
+use reference::{
+    judge_check_file, perkcheck_line, read_package, BundleContents, Contents, Joined, Key, Refusal,
+    Refused,
+};
+use std::collections::{BTreeMap, BTreeSet};
 use std::fs;
 use std::path::{Path, PathBuf};
 
@@ -57,7 +60,7 @@ fn the_stored_files_are_the_written_ones() {
         assert!(files[name] == *bytes, "{name} differs");
     }
     let total: usize = written.values().map(Vec::len).sum();
-    assert!(total < 2_000_000, "{total} bytes");
+    assert!(total < 2_200_000, "{total} bytes");
 }
 
 /// The lines of a text file: for each name, the words of its lines.
@@ -163,10 +166,10 @@ impl Text {
     }
 }
 
-/// The parts of a file, each from a line `case` or `refused` to the next one, with
-/// that line.
+/// The parts of a file, each from a line `case`, `refused`, `join` or
+/// `join_refused` to the next one, with that line.
 fn parts(file: &str) -> Vec<(String, Text)> {
-    let heads = ["case", "refused"];
+    let heads = ["case", "refused", "join", "join_refused"];
     let text = stored_text(file);
     let mut parts: Vec<String> = Vec::new();
     for line in text.lines() {
@@ -334,6 +337,99 @@ fn the_file_of_packages_holds_the_answers() {
     let key_a = fs::read(directory().join("key_a.check")).expect("a readable file");
     assert_eq!(packages["key_a"], key_a[..56]);
     assert_eq!(packages["n64_m63_target"].len(), 8873);
+}
+
+/// A slice of bytes of a part of the file `bundle.txt`, as many as its length says,
+/// 64 on each line but the last.
+fn slice(text: &Text, name: &str) -> Vec<u8> {
+    let bytes = text.file(name);
+    assert_eq!(bytes.len(), text.number(&format!("{name}_length")));
+    assert_eq!(text.lines(name).len(), bytes.len().div_ceil(64));
+    bytes
+}
+
+/// Compares a part of the file `bundle.txt` with what the reader answers.
+fn compare_read(text: &Text, name: &str) -> u32 {
+    let answer = reference::read_bundle(&slice(text, "bundle")).map_err(Refusal::number);
+    if name.starts_with("case ") {
+        let [n, m, groups] = ["n", "m", "groups"].map(|name| text.number(name));
+        assert_eq!(answer, Ok(BundleContents { n, m, groups }), "{name}");
+        0
+    } else {
+        let number = text.number("answer") as u32;
+        assert_eq!(answer, Err(number), "{name}");
+        number
+    }
+}
+
+/// Compares a part of the file `bundle.txt` with what the join answers and
+/// writes: to outputs of the length of the joined bundle, of more and of less, or
+/// to that of a refused call.
+fn compare_join(text: &Text, name: &str) -> u32 {
+    let [first, second] = ["first", "second"].map(|name| slice(text, name));
+    let outcome = |length: usize| {
+        let mut out = vec![0xab; length];
+        let answer = reference::join_bundles(&first, &second, &mut out);
+        (answer.map_err(Refusal::number), out)
+    };
+    if name.starts_with("join ") {
+        let (joined, groups) = (slice(text, "joined"), text.number("groups"));
+        let length = joined.len();
+        for more in [0, 1, 40] {
+            let mut expected = joined.clone();
+            expected.resize(length + more, 0xab);
+            let answer = Ok(Joined { length, groups });
+            assert_eq!(outcome(length + more), (answer, expected), "{name}");
+        }
+        let short = text.number("short_answer") as u32;
+        let expected = (Err(short), vec![0xab; length - 1]);
+        assert_eq!(outcome(length - 1), expected, "{name}");
+        assert_eq!(short, 13, "{name}");
+        0
+    } else {
+        let length = text.number("out_length");
+        let number = text.number("answer") as u32;
+        let expected = (Err(number), vec![0xab; length]);
+        assert_eq!(outcome(length), expected, "{name}");
+        number
+    }
+}
+
+#[test]
+fn the_file_of_bundles_holds_the_answers() {
+    let kinds = ["case", "refused", "join", "join_refused"];
+    let mut answers: BTreeMap<(usize, u32), usize> = BTreeMap::new();
+    let (mut names, mut last) = (Vec::new(), 0);
+    for (name, text) in parts(bundle::NAME) {
+        let kind = kinds
+            .iter()
+            .position(|kind| name.split(' ').next() == Some(kind));
+        let kind = kind.expect("a kind of a part");
+        assert!(last <= kind, "{name} comes too late");
+        let number = match kind {
+            0 | 1 => compare_read(&text, &name),
+            _ => compare_join(&text, &name),
+        };
+        *answers.entry((kind, number)).or_default() += 1;
+        assert!(!names.contains(&name), "{name} is there twice");
+        last = kind;
+        names.push(name);
+    }
+    let of_reader = [1, 2, 4, 5, 6, 9, 10, 11, 14, 15, 19, 20];
+    let mut stated = BTreeSet::from([(0, 0), (2, 0), (3, 13), (3, 21), (3, 22)]);
+    stated.extend(
+        [1, 3]
+            .iter()
+            .flat_map(|&kind| of_reader.map(|number| (kind, number))),
+    );
+    assert!(answers.keys().eq(&stated), "{answers:?}");
+    assert!(answers.values().all(|&count| count >= 2), "{answers:?}");
+    assert!(
+        answers[&(0, 0)] >= 25 && answers[&(2, 0)] >= 25,
+        "{answers:?}"
+    );
+    let size = stored_text(bundle::NAME).len();
+    assert!(size < 150_000, "{size} bytes");
 }
 
 /// The file after a change: a place, the byte there and another one.

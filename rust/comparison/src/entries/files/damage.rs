@@ -117,6 +117,11 @@ pub fn damaged_file<R: Reader>(pool: &Pool, generator: &mut Generator) -> Vec<u8
         }
         return join(&fields);
     }
+    damaged(fields, generator)
+}
+
+/// The bytes of these fields with one to three changes.
+pub fn damaged(mut fields: Vec<WrittenField>, generator: &mut Generator) -> Vec<u8> {
     let changes = any_of(&[1, 1, 1, 2, 2, 3], generator);
     let of_fields = generator.below(changes + 1);
     for _ in 0..of_fields {

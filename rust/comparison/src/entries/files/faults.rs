@@ -1,8 +1,8 @@
 //! Faults of one field, at one place, whose answers are known.
 
 use super::fields::{
-    self, elements, holds, lean, may_come_next, may_have_length, serial_in_four, set_word, starts,
-    value_refusals, Holds, HEAD,
+    self, elements, holds, lean, may_come_next, may_have_length, serial_field, serial_in_four,
+    serial_value, set_word, starts, value_refusals, Holds, HEAD,
 };
 use super::Reader;
 use crate::entries::DONE;
@@ -48,6 +48,13 @@ pub type Spot = (usize, Place);
 /// The spots of a file where a fault can be.
 pub fn spots<R: Reader>(fields: &[WrittenField]) -> Vec<Spot> {
     let fields = R::FILE.part(fields);
+    let mut list = spots_of_fields(fields);
+    list.push((fields.len(), Place::End));
+    list
+}
+
+/// The same, but for the end.
+pub fn spots_of_fields(fields: &[WrittenField]) -> Vec<Spot> {
     let mut list = Vec::new();
     for (index, field) in fields.iter().enumerate() {
         for place in PLACES {
@@ -62,7 +69,6 @@ pub fn spots<R: Reader>(fields: &[WrittenField]) -> Vec<Spot> {
             }
         }
     }
-    list.push((fields.len(), Place::End));
     list
 }
 
@@ -92,17 +98,26 @@ pub struct Draft {
     leans: bool,
     /// The index of x.
     x: usize,
+    /// The indices of the serials: one, or that of each group of a bundle.
+    serials: Vec<usize>,
 }
 
 impl Draft {
     /// The file of a reader in the list of a check file.
     pub fn new<R: Reader>(fields: &[WrittenField]) -> Draft {
+        Draft::of(R::FILE.part(fields))
+    }
+
+    /// The file of these fields.
+    pub fn of(fields: &[WrittenField]) -> Draft {
+        let serial = |&index: &usize| fields[index].tag == tag::SERIAL;
         Draft {
-            fields: R::FILE.part(fields).to_vec(),
+            fields: fields.to_vec(),
             following: Vec::new(),
             cut: None,
             leans: false,
             x: index_of(fields, tag::X),
+            serials: (0..fields.len()).filter(serial).collect(),
         }
     }
 
@@ -129,12 +144,23 @@ impl Draft {
         x + usize::from(self.bytes().get(after_x) == Some(&tag::Y))
     }
 
-    /// Faults of the values of a field that has content and such refusals: one of
-    /// them, and about every other time each that is decided later, those first,
-    /// so that none takes the first away. The first. 15 is one of them where it is
-    /// decided with this field.
+    /// The serial of the group before, where this field is the serial of a
+    /// further group of a bundle.
+    fn serial_before(&self, index: usize) -> Option<u32> {
+        let place = self.serials.iter().position(|&serial| serial == index)?;
+        let before = self.serials[place.checked_sub(1)?];
+        Some(serial_value(&self.fields[before]))
+    }
+
+    /// Faults of the values of a field that has content and such refusals: one
+    /// of them, and about every other time each that is decided later, those
+    /// first, so that none takes the first away. The first. 15 is one of them
+    /// where it is decided with this field, and 20 where it is the serial of a
+    /// further group.
     fn spoil_values(&mut self, index: usize, generator: &mut Generator) -> Refusal {
-        let refusals = value_refusals(self.fields[index].tag).to_vec();
+        let mut refusals = value_refusals(self.fields[index].tag).to_vec();
+        let before = self.serial_before(index);
+        refusals.extend(before.map(|_| Refusal::SerialOrder));
         let of_rows = refusals.contains(&Refusal::DependentRows) && self.judges_rows() == index;
         let possible = |&refusal: &Refusal| refusal != Refusal::DependentRows || of_rows;
         let refusals: Vec<Refusal> = refusals.into_iter().filter(possible).collect();
@@ -145,6 +171,9 @@ impl Draft {
             }
             match refusals[place] {
                 Refusal::DependentRows => self.leans |= lean(&mut self.fields, generator),
+                Refusal::SerialOrder => {
+                    self.fields[index] = serial_up_to(before.unwrap_or(0), generator);
+                }
                 refusal => spoil_value(&mut self.fields[index], refusal, generator),
             }
         }
@@ -154,7 +183,11 @@ impl Draft {
     /// Puts a fault at this spot, and gives its refusal.
     fn spoil(&mut self, (index, place): Spot, generator: &mut Generator) -> Refusal {
         match place {
-            Place::Head => self.cut(index, generator.below(HEAD)),
+            Place::Head => {
+                // Before a further group a bundle may end.
+                let least = usize::from(self.serial_before(index).is_some());
+                self.cut(index, least + generator.below(HEAD - least));
+            }
             Place::Tag => {
                 let tag = self.fields[index].tag;
                 let mut others = std::iter::repeat_with(|| other_tag(tag, generator));
@@ -257,6 +290,14 @@ pub fn spoil_value(field: &mut WrittenField, refusal: Refusal, generator: &mut G
     }
 }
 
+/// The field of a serial that is this one or below it.
+pub fn serial_up_to(largest: u32, generator: &mut Generator) -> WrittenField {
+    let any = (generator.number() % (u64::from(largest) + 1)) as u32;
+    let less = largest.saturating_sub(1);
+    let serials = [largest, largest, less, 0, largest % 65_536, any];
+    serial_field(any_of(&serials, generator))
+}
+
 /// The first place, the last or any.
 fn any_place(len: usize, generator: &mut Generator) -> usize {
     let any = generator.below(len);
@@ -271,7 +312,16 @@ pub fn faulty<R: Reader>(
     spots: &[Spot],
     generator: &mut Generator,
 ) -> (Vec<u8>, u32) {
-    let mut draft = Draft::new::<R>(fields);
+    faulty_fields(R::FILE.part(fields), spots, generator)
+}
+
+/// The same with the fields of a whole file, which may be a bundle.
+pub fn faulty_fields(
+    fields: &[WrittenField],
+    spots: &[Spot],
+    generator: &mut Generator,
+) -> (Vec<u8>, u32) {
+    let mut draft = Draft::of(fields);
     // The last spot first, so that the right lengths of fields are known.
     let mut spots = spots.to_vec();
     spots.sort_unstable();

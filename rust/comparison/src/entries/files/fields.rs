@@ -193,6 +193,12 @@ pub fn serial_in_four(serial: u16) -> WrittenField {
     WrittenField::new(tag::SERIAL, vec![0, 0, high, low])
 }
 
+/// The serial of such a field, whatever its length is.
+pub fn serial_value(field: &WrittenField) -> u32 {
+    let bytes = field.content.iter();
+    bytes.fold(0, |number, &byte| number << 8 | u32::from(byte))
+}
+
 /// Puts the field of a serial in the place of the one that the list has.
 pub fn set_serial(fields: &mut [WrittenField], serial: WrittenField) {
     *field_of(fields, tag::SERIAL) = serial;

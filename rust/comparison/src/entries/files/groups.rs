@@ -24,15 +24,15 @@ pub const KEY_ELEMENT: u32 = 4;
 /// 9: bytes are missing.
 pub const MISSING: u32 = 9;
 /// 10: "not the tag that comes next".
-const TAG: u32 = 10;
+pub const TAG: u32 = 10;
 /// 11: "not the length stated above".
 pub const LENGTH: u32 = 11;
 /// 12: "bytes follow the last field".
-const FOLLOW: u32 = 12;
+pub const FOLLOW: u32 = 12;
 /// 14: "field 04 is present and all its elements are zero".
 pub const ZERO_TARGET: u32 = 14;
 /// 19: "a four-byte serial is below 65,536".
-const LONG_SERIAL: u32 = 19;
+pub const LONG_SERIAL: u32 = 19;
 
 /// The groups of an entry that answers refusals.
 pub fn fault_groups<R: Reader>() -> Vec<Group> {

@@ -18,7 +18,7 @@ fn read(target: bool, serial: u32) -> String {
 const END: &str = "end";
 
 /// The column of a refusal at a place.
-fn column(place: Place, refusal: Refusal) -> String {
+pub fn column(place: Place, refusal: Refusal) -> String {
     let number = match place {
         Place::Head => 1,
         Place::Tag => 2,
@@ -31,7 +31,7 @@ fn column(place: Place, refusal: Refusal) -> String {
 }
 
 /// The columns of a field.
-fn columns_of(tag: u8) -> Vec<String> {
+pub fn columns_of(tag: u8) -> Vec<String> {
     let refusals = |place| refusals_at(place, tag).iter();
     let columns = PLACES.into_iter();
     columns
@@ -40,7 +40,7 @@ fn columns_of(tag: u8) -> Vec<String> {
 }
 
 /// The row of a field.
-fn row(tag: u8) -> String {
+pub fn row(tag: u8) -> String {
     format!("{tag:02x}")
 }
 

@@ -9,21 +9,21 @@ use reference::samples::{Generator, Sample};
 use reference::small_field::F;
 
 /// The fields 01 to 03 of key A.
-const KEY_A: [&[u8]; 3] = [
+pub const KEY_A: [&[u8]; 3] = [
     &[0x01, 0, 2, 2, 1],
     &[0x02, 0, 4, 0, 2, 0, 1],
     &[0x03, 0, 4, 0, 1, 0, 2],
 ];
 
 /// The field 04 of some y: none, in the lower byte, and in the higher one.
-const TARGETS: [(u16, &[u8]); 3] = [
+pub const TARGETS: [(u16, &[u8]); 3] = [
     (0, &[]),
     (5, &[0x04, 0, 2, 0, 5]),
     (1792, &[0x04, 0, 2, 7, 0]),
 ];
 
 /// The field 05 of some serials.
-const SERIALS: [(u32, &[u8]); 6] = [
+pub const SERIALS: [(u32, &[u8]); 6] = [
     (0, &[0x05, 0, 2, 0, 0]),
     (7, &[0x05, 0, 2, 0, 7]),
     (65_535, &[0x05, 0, 2, 255, 255]),
@@ -33,7 +33,7 @@ const SERIALS: [(u32, &[u8]); 6] = [
 ];
 
 /// The fields 06 and 07 of a t and an a that are no proof.
-const T_AND_A: [&[u8]; 2] = [
+pub const T_AND_A: [&[u8]; 2] = [
     &[0x06, 0, 2, 1, 0],
     &[
         0x07, 0, 24, 0, 5, 0, 0, 0, 0, 0, 0, 0, 0, 0, 0, 0, 0, 0, 0, 0, 0, 0, 0, 0, 0, 7, 255,

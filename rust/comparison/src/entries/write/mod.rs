@@ -2,10 +2,10 @@
 //! output that may be longer.
 //!
 //! - [`groups`]: the groups of its cases, but for those with faults;
-//! - `by_hand`: packages whose bytes are written out;
+//! - [`by_hand`]: packages whose bytes are written out;
 //! - `table`: the table of its cases.
 
-mod by_hand;
+pub mod by_hand;
 pub mod groups;
 mod table;
 

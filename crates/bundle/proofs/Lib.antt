@@ -1,0 +1,4 @@
+pub mod Places
+pub mod Faithful
+pub mod Steps
+pub mod Examples

@@ -1,0 +1,9 @@
+pub mod Equal
+pub mod Union
+pub mod Cursors
+pub mod Count
+pub mod Mates
+pub mod Put
+pub mod Outcome
+pub mod Laws
+pub mod Examples

@@ -1,0 +1,4 @@
+pub mod Union
+pub mod Entry
+pub mod Laws
+pub mod Steps

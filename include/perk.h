@@ -17,9 +17,9 @@
  * Any other number is a refusal, 1 to 16 or 19 to 22, and then every output holds what it held before. Refusals are tried
  * in the order in which a function lists them; the first that applies is the result. Sizes and lengths are decided before
  * any slice is read, so that a length in bytes for one in words is refused with 3; this is tested, and not part of the
- * proof. Files have no stated length: the readers and perk_join_bundles take any number of bytes, and the output of
- * perk_write_package and of perk_join_bundles may be longer than what is written, and is refused with 13, after everything
- * else, where it is shorter.
+ * proof. Files have no stated length: the readers, perk_join_bundles and perk_look_before_join take any number of bytes, and
+ * the output of perk_write_package and of perk_join_bundles may be longer than what is written, and is refused with 13,
+ * after everything else, where it is shorter. perk_look_before_join is told the length of such an output, and lent none.
  *
  * Numbers. An element of F is a number 0 to 2047 whose bit i is the coefficient of z^i, with z^11 = z^2 + 1. An element
  * of K is PERK_ELEMENT_WORDS = 12 words, coordinate 0 first, each an element of F, with Y^12 = Y^3 + 1; several elements
@@ -59,9 +59,9 @@
 #include <stddef.h>
 #include <stdint.h>
 
-#define PERK_VERSION "0.7.0"
+#define PERK_VERSION "0.8.0"
 #define PERK_VERSION_MAJOR 0
-#define PERK_VERSION_MINOR 7
+#define PERK_VERSION_MINOR 8
 #define PERK_VERSION_PATCH 0
 
 /* results */
@@ -82,7 +82,7 @@
 #define PERK_TAG 10          /* not the tag that comes next */
 #define PERK_FIELD_LENGTH 11 /* not a length that the field has for these sizes */
 #define PERK_BYTES_FOLLOW 12 /* bytes follow the last field */
-#define PERK_SHORT_OUTPUT 13 /* the output is shorter than what is to be written */
+#define PERK_SHORT_OUTPUT 13 /* the output, lent or meant to be lent, is shorter than what is to be written */
 #define PERK_ZERO_TARGET 14  /* field 04 is present and all its elements are zero */
 #define PERK_DEPENDENT_ROWS 15 /* some coefficients from F, not all zero, combine the rows of H to zero */
 #define PERK_SPARE_CODE 16   /* a position is a spare code, n to 2^d - 1, which names no column; none is 2^d or more */
@@ -422,9 +422,10 @@ uint32_t perk_read_bundle(const uint8_t *bytes, size_t bytes_len, uint32_t *n, u
  *   groups       another such number, written: how many groups it has
  *
  * How to use it: lend an out of first_len + second_len bytes, which is long enough for every two bundles, since the key's
- * fields are written once; the first *length bytes of out are then the file to store. To add a package to a bundle, lend it
- * as one of the two. For more than two bundles, lend what was written, *length bytes of it, as first of the next call, with
- * another out. Nothing is verified here: t and a may be any within the limits.
+ * fields are written once, or one of exactly the length that perk_look_before_join tells; the first *length bytes of out are
+ * then the file to store. To add a package to a bundle, lend it as one of the two. For more than two bundles, lend what was
+ * written, *length bytes of it, as first of the next call, with another out. Nothing is verified here: t and a may be any
+ * within the limits.
  *
  * What is written depends on the key and on the groups alone. So it makes no difference which bundle is first, and a bundle
  * that is joined with itself, with some of its own groups, or with one of the two that it was joined from, stays as it is.
@@ -451,6 +452,33 @@ uint32_t perk_read_bundle(const uint8_t *bytes, size_t bytes_len, uint32_t *n, u
 PERK_LOOK_AT_RESULT
 uint32_t perk_join_bundles(const uint8_t *first, size_t first_len, const uint8_t *second, size_t second_len, uint8_t *out,
                            size_t out_len, size_t *length, size_t *groups);
+
+/*
+ * For records rooms that mean to join two bundles: what perk_join_bundles answers for them with an out of room bytes, the
+ * length and the number of groups of the joined bundle or the refusal, before any out is lent. Nothing else is written.
+ *
+ *   first        a bundle       second       a bundle; the two may be the same memory
+ *   room         the length of the output that is meant to be lent: any number, 0 and SIZE_MAX too. It is compared with the
+ *                joined length, and names no memory
+ *   length       a number of the caller's, not within first or second; written: how many bytes the joined bundle has
+ *   groups       another such number, written: how many groups it has
+ *
+ * How to use it: look with a room of SIZE_MAX, which is never too short, lend an out of exactly *length bytes, and join.
+ * Where an output is at hand, look with its length as room: PERK_DONE means that the joined bundle fits it.
+ *
+ * Refusals: those of perk_join_bundles, in the same order: all those of first, all those of second, 21, 22, and then 13,
+ * where room is below the joined length. 13 tells no length; a look with SIZE_MAX does. On each of them length and groups
+ * keep what they hold.
+ *
+ * Proved besides: for every out of room bytes perk_join_bundles has the same result and the same two numbers; a room of
+ * first_len + second_len or more is never refused with 13; where a length is told, for whatever room, an out of exactly that
+ * length gets the same numbers from perk_join_bundles; and a refusal other than 13 is the same for every room.
+ *
+ * The time is that of perk_join_bundles without the writing; this is not part of the proof. Stack: under 12 KiB.
+ */
+PERK_LOOK_AT_RESULT
+uint32_t perk_look_before_join(const uint8_t *first, size_t first_len, const uint8_t *second, size_t second_len, size_t room,
+                               size_t *length, size_t *groups);
 
 #ifdef __cplusplus
 }

@@ -1,8 +1,9 @@
 /*
  * Lengths are decided before a slice is read: each slice ends where memory ends, and where its stated length is too long, as a length in bytes
  * for one in words is, the answer is 3 and nothing past the end is read. The readers take files that end where memory ends, whole and cut at
- * every byte, and a package is written to outputs that end there, from none to its length. Bundles that are joined, whole and cut at every
- * byte, and the output end where memory ends, or begin where memory begins. Prints how many calls were made.
+ * every byte, and a package is written to outputs that end there, from none to its length. Bundles that are joined, or looked at before, whole
+ * and cut at every byte, and the output end where memory ends, or begin where memory begins; a look is told a room that no memory has, too.
+ * Prints how many calls were made.
  */
 #include <stdint.h>
 #include <stdio.h>
@@ -179,14 +180,27 @@ static void make_rooms(void) {
 /* the place of so many bytes that begin where a room begins, or end where it ends */
 static uint8_t *at_edge(size_t of, size_t len, int begins) { return rooms[of].start + (begins ? 0 : rooms[of].len - len); }
 
+/* looks at two bundles at an edge of their rooms, for an output of this length: the answer is the one stated, and the two numbers are these where it
+   is done, and else kept */
+static void look(struct bytes first, struct bytes second, int begins, size_t out_len, size_t joined_len, size_t count, uint32_t stated) {
+    size_t length = SIZE_MAX / 2, groups = SIZE_MAX / 3;
+    at_end("perk_look_before_join", first.len, perk_look_before_join(at_edge(0, first.len, begins), first.len, at_edge(1, second.len, begins),
+           second.len, out_len, &length, &groups), stated);
+    if (stated == PERK_DONE ? length == joined_len && groups == count : length == SIZE_MAX / 2 && groups == SIZE_MAX / 3) return;
+    printf("perk_look_before_join: length or groups for %zu and %zu bytes to %zu\n", first.len, second.len, out_len);
+    failed++;
+}
+
 /* joins two bundles to an output of this length, all at an edge of their rooms: the answer is the one stated, the output begins with these bytes
-   where it is done, and the rest of its room stays */
+   where it is done, and the rest of its room stays. Looks before with this length, and with the largest, for which the answer is never 13 */
 static void join(struct bytes first, struct bytes second, size_t out_len, struct bytes joined, size_t count, uint32_t stated) {
     for (int begins = 0; begins < 2; begins++) {
         uint8_t *out = at_edge(2, out_len, begins), *end = rooms[2].start + rooms[2].len;
         size_t length = SIZE_MAX, groups = SIZE_MAX, written = stated == PERK_DONE ? joined.len : 0;
         if (first.len > 0) memcpy(at_edge(0, first.len, begins), first.start, first.len);
         if (second.len > 0) memcpy(at_edge(1, second.len, begins), second.start, second.len);
+        look(first, second, begins, out_len, joined.len, count, stated);
+        look(first, second, begins, SIZE_MAX, joined.len, count, stated == PERK_SHORT_OUTPUT ? PERK_DONE : stated);
         memset(rooms[2].start, 0xA5, rooms[2].len);
         at_end("perk_join_bundles", first.len, perk_join_bundles(at_edge(0, first.len, begins), first.len, at_edge(1, second.len, begins), second.len,
                out, out_len, &length, &groups), stated);

@@ -118,18 +118,27 @@ static uint32_t reads(const uint8_t *bundle, size_t len, size_t n, size_t m, siz
     return read_n == n && read_m == m && groups == count ? PERK_DONE : PERK_REJECTED;
 }
 
+/* PERK_DONE where a look at the two with this room tells this length and so many groups; on a refusal both numbers are kept */
+static uint32_t looks(const uint8_t *one, size_t one_len, const uint8_t *two, size_t two_len, size_t room, size_t stated, size_t count) {
+    size_t length = 98, groups = 99;
+    uint32_t result = perk_look_before_join(one, one_len, two, two_len, room, &length, &groups);
+    if (result != PERK_DONE) return length == 98 && groups == 99 ? result : PERK_REJECTED;
+    return length == stated && groups == count ? PERK_DONE : PERK_REJECTED;
+}
+
 /* PERK_DONE where the first two are joined to the bundle in both, of this length and so many groups, in an output of this length; on a refusal
-   the output and both numbers are kept */
+   the output and both numbers are kept. A look before must have told the same */
 static uint32_t joins(const uint8_t *one, size_t one_len, const uint8_t *two, size_t two_len, size_t room, size_t stated, size_t count) {
     size_t length = 98, groups = 99, at = 0;
     memset(joined, 7, sizeof joined);
+    uint32_t told = looks(one, one_len, two, two_len, room, stated, count);
     uint32_t result = perk_join_bundles(one, one_len, two, two_len, joined, room, &length, &groups);
     if (result == PERK_DONE) {
         if (length != stated || groups != count || memcmp(joined, both, stated) != 0) return PERK_REJECTED;
         at = stated;
     } else if (length != 98 || groups != 99) return PERK_REJECTED;
     while (at < sizeof joined && joined[at] == 7) at++;
-    return at == sizeof joined ? result : PERK_REJECTED;
+    return at == sizeof joined && told == result ? result : PERK_REJECTED;
 }
 
 /* the bundle of these sizes with these serials, copied from bytes */
@@ -159,13 +168,19 @@ static void bundles(size_t n, size_t m, int target) {
         expect("a bundle with itself", n, m, joins(both, len, both, len, room, len, 5), stated);
         expect("with a part of itself", n, m, joins(first, first_len, both, len, room, len, 5), stated);
     }
+    /* rooms that no output has, and none */
+    expect("the largest room", n, m, looks(first, first_len, second, second_len, SIZE_MAX, len, 5), PERK_DONE);
+    expect("a room of 2^63", n, m, looks(second, second_len, first, first_len, SIZE_MAX / 2 + 1, len, 5), PERK_DONE);
+    expect("no room", n, m, looks(first, first_len, second, second_len, 0, len, 5), PERK_SHORT_OUTPUT);
     /* 21 and 22, also where the output is too short, and 20 */
     second[second_len - 1] = 1;
     expect("40", n, m, joins(both, len, second, second_len, BUNDLE, len, 5), PERK_GROUPS_DIFFER);
     expect("41", n, m, joins(second, second_len, both, len, 0, len, 5), PERK_GROUPS_DIFFER);
+    expect("56", n, m, looks(second, second_len, both, len, SIZE_MAX, len, 5), PERK_GROUPS_DIFFER);
     second_len = bundle(second, n, m, !target, others, 4);
     expect("42", n, m, joins(first, first_len, second, second_len, BUNDLE, len, 5), PERK_OTHER_KEY);
     expect("43", n, m, joins(second, second_len, first, first_len, 0, len, 5), PERK_OTHER_KEY);
+    expect("57", n, m, looks(second, second_len, first, first_len, SIZE_MAX, len, 5), PERK_OTHER_KEY);
     first_len = bundle(first, n, m, target, (const uint32_t[]){65536, 65535}, 2);
     expect("44", n, m, reads(first, first_len, n, m, 0), PERK_SERIAL_ORDER);
     expect("45", n, m, joins(second, second_len, first, first_len, BUNDLE, len, 5), PERK_SERIAL_ORDER);

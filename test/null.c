@@ -55,6 +55,11 @@ int main(void) {
     expect("join nothing with a bundle", perk_join_bundles(NONE, bundle, sizeof bundle, NONE, &length, &groups), 9);
     expect("join a bundle with nothing", perk_join_bundles(bundle, sizeof bundle, NONE, NONE, &length, &groups), 9);
     expect("join bundles to nothing", perk_join_bundles(bundle, sizeof bundle, bundle, sizeof bundle, NONE, &length, &groups), 13);
+    /* the room of a look is a number, and none of its slices has a stated length */
+    expect("look at nothing", perk_look_before_join(NONE, NONE, 0, &length, &groups), 9);
+    expect("look at nothing and a bundle", perk_look_before_join(NONE, bundle, sizeof bundle, SIZE_MAX, &length, &groups), 9);
+    expect("look at a bundle and nothing", perk_look_before_join(bundle, sizeof bundle, NONE, SIZE_MAX, &length, &groups), 9);
+    expect("look with no room", perk_look_before_join(bundle, sizeof bundle, bundle, sizeof bundle, 0, &length, &groups), 13);
     expect("length and groups kept", length == 5 && groups == 6, 1);
     return failed;
 }

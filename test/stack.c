@@ -71,6 +71,10 @@ static uint32_t join_bundles(void) {
     size_t length, groups;
     return perk_join_bundles(even, bundle_len, odd, bundle_len, joined, sizeof joined, &length, &groups);
 }
+static uint32_t look_before_join(void) {
+    size_t length, groups;
+    return perk_look_before_join(even, bundle_len, odd, bundle_len, SIZE_MAX, &length, &groups);
+}
 
 static uint32_t (*function)(void);
 static uint32_t result;
@@ -177,7 +181,8 @@ int main(int argc, char **argv) {
                  {"perk_field", field, 12 * 1024},
                  {"perk_check", check, 40 * 1024},
                  {"perk_read_bundle", read_bundle, 12 * 1024},
-                 {"perk_join_bundles", join_bundles, 12 * 1024}};
+                 {"perk_join_bundles", join_bundles, 12 * 1024},
+                 {"perk_look_before_join", look_before_join, 12 * 1024}};
     FILE *input = argc == 2 ? fopen(argv[1], "rb") : NULL;
     if (input == NULL) return 2;
     file_len = fread(file, 1, sizeof file, input);

@@ -1,3 +1,4 @@
 pub mod Readings
 pub mod Starred
 pub mod Target
+pub mod Lending

@@ -25,6 +25,7 @@ ghost use Rattle.joining.specs.declared.Size.{Size};
 ghost use Rattle.joining.specs.declared.Joined.the-variants as joined;
 ghost use Rattle.writer.specs.declared.Written.the-variants.{Length};
 ghost use Rattle.writer.specs.Entry.{dataOf, writeOutcome};
+ghost use Rattle.examples.specs.Lending.{LentExactly};
 use elimination::MATRIX;
 use joining::Joined;
 use key::Key;
@@ -211,4 +212,30 @@ pub fn joined_again(bytes: &[u8], out: &mut [u8]) -> Joined
     ensures { λ r. ⌜ ((c : Groups) → readingBundle (levelAt FIRST) (now (bytes .entry)) ≡ bundle.Fields c → length (now (bytes .entry)) ≤ length (now (out .entry)) → (r ≡ joined.Size (record { length = length (now (bytes .entry)); groups = c .groups })) × (now (out .exit) ≡ now (bytes .entry) ++ drop (length (now (bytes .entry))) (now (out .entry)))) ⌝ }
 {
     joining::join_bundles(bytes, bytes, out)
+}
+
+// The largest room that can be named.
+const LARGEST: usize = 0xffff_ffff_ffff_ffff;
+
+// What a join answers, or how many bytes it needs where there are fewer.
+pub enum Lent {
+    Joined(Joined),
+    Short(usize),
+}
+
+// Looks with the largest room, and lends exactly the length that is told: the join is never refused with 13. What a join with all of out would answer
+// and leave there is answered and left, and where that is 13, the bytes that are needed.
+pub fn joined_exactly(first: &[u8], second: &[u8], out: &mut [u8]) -> Lent
+    ensures { λ r. ⌜ LentExactly (levelAt FIRST) (now (first .entry)) (now (second .entry)) (now (out .entry)) (now (out .exit)) r ⌝ }
+{
+    match joining::look_before_join(first, second, LARGEST) {
+        Joined::Refused(refusal) => Lent::Joined(Joined::Refused(refusal)),
+        Joined::Size(size) => {
+            let len = size.length;
+            if out.len() < len {
+                return Lent::Short(len);
+            }
+            Lent::Joined(joining::join_bundles(first, second, &mut out[..len]))
+        }
+    }
 }

@@ -439,20 +439,28 @@ fn edge(
     edge_verifier(key, &matrix, &vector, &target, q, delta, &weights, a, none);
 }
 
-// 2047 and 2048 in each slice of key A.
-fn limits(none: &[u16]) {
+// 2047 and 2048 in H, x and y of key A.
+fn limits_of_key(none: &[u16]) {
     edge(b"H 2047", none, 2, 1, 2047, 1, 0, 1, 3, 2, 1, 5);
     edge(b"H 2048", none, 2, 1, 2048, 1, 0, 1, 3, 2, 1, 5);
     edge(b"x 2047", none, 2, 1, 2, 2047, 0, 1, 3, 2, 1, 5);
     edge(b"x 2048", none, 2, 1, 2, 2048, 0, 1, 3, 2, 1, 5);
     edge(b"y 2047", none, 2, 1, 2, 1, 2047, 1, 3, 2, 1, 5);
     edge(b"y 2048", none, 2, 1, 2, 1, 2048, 1, 3, 2, 1, 5);
+}
+
+// The same in v, q and the challenge.
+fn limits_of_correlations(none: &[u16]) {
     edge(b"v 2047", none, 2, 1, 2, 1, 0, 2047, 3, 2, 1, 5);
     edge(b"v 2048", none, 2, 1, 2, 1, 0, 2048, 3, 2, 1, 5);
     edge(b"q 2047", none, 2, 1, 2, 1, 0, 1, 2047, 2, 1, 5);
     edge(b"q 2048", none, 2, 1, 2, 1, 0, 1, 2048, 2, 1, 5);
     edge(b"challenge 2047", none, 2, 1, 2, 1, 0, 1, 3, 2047, 1, 5);
     edge(b"challenge 2048", none, 2, 1, 2, 1, 0, 1, 3, 2048, 1, 5);
+}
+
+// The same in the weights and a.
+fn limits_of_proof(none: &[u16]) {
     edge(b"weights 2047", none, 2, 1, 2, 1, 0, 1, 3, 2, 2047, 5);
     edge(b"weights 2048", none, 2, 1, 2, 1, 0, 1, 3, 2, 2048, 5);
     edge(b"a 2047", none, 2, 1, 2, 1, 0, 1, 3, 2, 1, 2047);
@@ -583,38 +591,70 @@ fn largest() {
     );
 }
 
-fn main() {
-    let none = [0u16; 0];
+// Products of two numbers, each an element with that coordinate 0.
+fn products_of_numbers() {
+    product(b"1024 times 2", &element(1024), &element(2));
+    product(b"1024 times 1024", &element(1024), &element(1024));
+    product(b"2047 times 2", &element(2047), &element(2));
+}
+
+// Products of powers of Y.
+fn products_of_powers() {
     let mut power_1 = [0u16; 12];
     power_1[1] = 1;
     let mut power_11 = [0u16; 12];
     power_11[11] = 1;
-    product(b"1024 times 2", &element(1024), &element(2));
-    product(b"1024 times 1024", &element(1024), &element(1024));
-    product(b"2047 times 2", &element(2047), &element(2));
     product(b"Y^11 times Y", &power_11, &power_1);
     product(b"Y^11 times Y^11", &power_11, &power_11);
-    key_a(b"key A", 0, &[0u8, 1], &none);
+}
+
+// Keys without a target.
+fn without_target(none: &[u16]) {
+    key_a(b"key A", 0, &[0u8, 1], none);
     values_a(b"key A", 0, &[1u8, 1]);
-    verify_a(b"key A", 0, &[1u8, 1], &element(5), &none);
-    verify_a(b"key A", 0, &[1u8, 1], &element(4), &none);
+    verify_a(b"key A", 0, &[1u8, 1], &element(5), none);
+    verify_a(b"key A", 0, &[1u8, 1], &element(4), none);
     three(b"n = 3", 0, &[1u8, 1, 1]);
     three(b"n = 3", 0, &[0u8, 1, 3]);
-    key_a(b"key A", 0, &[1u8, 0], &none);
+    key_a(b"key A", 0, &[1u8, 0], none);
     three(b"n = 3", 0, &[0u8, 1, 4]);
-    key_a(b"key A, y = 5", 5, &[1u8, 0], &none);
+}
+
+// Keys with a target.
+fn with_target(none: &[u16]) {
+    key_a(b"key A, y = 5", 5, &[1u8, 0], none);
     values_a(b"key A, y = 5", 5, &[0u8, 0]);
-    verify_a(b"key A, y = 5", 5, &[0u8, 0], &element(5), &none);
-    verify_a(b"key A, y = 5", 5, &[0u8, 0], &element(4), &none);
-    key_a(b"key A, y = 5", 5, &[0u8, 1], &none);
+    verify_a(b"key A, y = 5", 5, &[0u8, 0], &element(5), none);
+    verify_a(b"key A, y = 5", 5, &[0u8, 0], &element(4), none);
+    key_a(b"key A, y = 5", 5, &[0u8, 1], none);
     three(b"n = 3, y = 1", 1, &[1u8, 0, 2]);
     three(b"n = 3, y = 1", 1, &[0u8, 1, 2]);
-    edge(b"n = 1, m = 1", &none, 1, 1, 2, 1, 0, 1, 3, 2, 1, 5);
-    edge(b"n = 65, m = 1", &none, 65, 1, 2, 1, 0, 1, 3, 2, 1, 5);
-    edge(b"n = 2, m = 1", &none, 2, 1, 2, 1, 0, 1, 3, 2, 1, 5);
-    edge(b"n = 2, m = 2", &none, 2, 2, 2, 1, 0, 1, 3, 2, 1, 5);
+}
+
+// Sizes at their edges.
+fn sizes(none: &[u16]) {
+    edge(b"n = 1, m = 1", none, 1, 1, 2, 1, 0, 1, 3, 2, 1, 5);
+    edge(b"n = 65, m = 1", none, 65, 1, 2, 1, 0, 1, 3, 2, 1, 5);
+    edge(b"n = 2, m = 1", none, 2, 1, 2, 1, 0, 1, 3, 2, 1, 5);
+    edge(b"n = 2, m = 2", none, 2, 2, 2, 1, 0, 1, 3, 2, 1, 5);
+}
+
+// A factor at its limit, and one above it.
+fn limits_of_factors() {
     product(b"2047 times 1", &element(2047), &element(1));
     product(b"2048 times 1", &element(2048), &element(1));
-    limits(&none);
+}
+
+fn main() {
+    let none = [0u16; 0];
+    products_of_numbers();
+    products_of_powers();
+    without_target(&none);
+    with_target(&none);
+    sizes(&none);
+    limits_of_factors();
+    limits_of_key(&none);
+    limits_of_correlations(&none);
+    limits_of_proof(&none);
     largest();
 }

@@ -1,4 +1,4 @@
--- Bundles of key A joined, of the definitions, as one statement over a list.
+-- Bundles of key A joined, and looked at before, of the definitions, each as one statement over a list.
 use mathlib.Core.Path.{_≡_, refl}
 use mathlib.Core.List.{List, [], _∷_, _++_, map}
 use Prim.Native.Nat.{ℕ}
@@ -22,7 +22,7 @@ use Rattle.bundle.proofs.Examples.{key, group, short, long}
 use Rattle.joining.specs.declared.Joined.{Joined}
 use Rattle.joining.specs.declared.Joined.the-variants.{Size, Refused}
 use Rattle.joining.specs.Union.{insert, union, same, differsFrom, differ}
-use Rattle.joining.specs.Entry.{joinOutcome}
+use Rattle.joining.specs.Entry.{joinAnswer, joinOutcome}
 
 -- bundles with these groups joined into an output of so many bytes, all 255
 abbrev outcome : (first second : List ℕ) (room : ℕ) → Joined × List ℕ
@@ -64,3 +64,25 @@ cases =
 pub examples : map (λ (c : (Joined × List ℕ) × (Joined × List ℕ)). c .0) cases ≡ map (λ (c : (Joined × List ℕ) × (Joined × List ℕ)). c .1) cases
 unfolding cases joinOutcome joined groupsFields insert union same differsFrom differ wordBytes levelAt degree leadingZeros startsFrom groupsTests tests rowTests after partOf words fromBytesAfter within below all rankOf rank cleared column pivot lowest count isZero smallAt small word digits number F times horner timesX rule 𝟘s unit sum scale push top
 examples = refl
+
+-- a look before the same bundles are joined, with so much room
+abbrev look : (first second : List ℕ) (room : ℕ) → Joined
+look first second room = joinAnswer (levelAt FIRST) (key ++ first) (key ++ second) room
+
+abbrev told : ℕ → ℕ → Joined
+told n groups = Size (record { length = n; groups = groups })
+
+pub looks : List (Joined × Joined)
+looks =
+    (look (short 7) (short 9) 93, told 93 2)
+    ∷ (look (short 7) (short 9) 0xffffffffffffffff, told 93 2)
+    ∷ (look (short 7) (short 9) 92, Refused (record { number = 13 }))
+    ∷ (look (short 7) (short 9) 0, Refused (record { number = 13 }))
+    ∷ (look (short 7) (short 7) 0xffffffffffffffff, told 56 1)
+    ∷ (look (short 7) otherA 0xffffffffffffffff, Refused (record { number = 22 }))
+    ∷ (look (short 7) otherA 0, Refused (record { number = 22 }))
+    ∷ []
+
+pub look-examples : map (λ (c : Joined × Joined). c .0) looks ≡ map (λ (c : Joined × Joined). c .1) looks
+unfolding looks joined groupsFields insert union same differsFrom differ wordBytes levelAt degree leadingZeros startsFrom groupsTests tests rowTests after partOf words fromBytesAfter within below all rankOf rank cleared column pivot lowest count isZero smallAt small word digits number F times horner timesX rule 𝟘s unit sum scale push top
+look-examples = refl

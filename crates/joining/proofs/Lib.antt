@@ -5,5 +5,7 @@ pub mod Count
 pub mod Mates
 pub mod Put
 pub mod Outcome
+pub mod Numbers
+pub mod Ahead
 pub mod Laws
 pub mod Examples

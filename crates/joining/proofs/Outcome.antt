@@ -58,6 +58,16 @@ same-key s t p q h k e =
     let at : (i : ℕ) → i < 5 → getD t (0 + i) 0 ≡ getD s (0 + i) 0 = λ i b. sym (part-at 0 q t i (omega (arith, b, k))) ∙ ap (λ r. getD r i 0) (sym e) ∙ part-at 0 p s i (omega (arith, b, h)) in
     ap₂ (λ (n m : ℕ). record { n = n; m = m }) (at 3 (omega arith)) (at 4 (omega arith))
 
+-- how long an accepted bundle is, and how many groups it has
+pub size-of : (s : List ℕ) → Bytes s → Accepted (levelAt FIRST) s → length s ≡ keyEnd (levelAt FIRST) s + length (groupsBytes (groupsOf (levelAt FIRST) s))
+size-of s b e =
+    let k = keyFields (keyDataOf (levelAt FIRST) s) in
+    let is = bundle-faithful .accepted s b e .1 ∙ joined-append k (groupsFields (groupsOf (levelAt FIRST) s)) in
+    omega (arith, ap length is, length-append (joined k) (groupsBytes (groupsOf (levelAt FIRST) s)), ap length (key-bytes s b e), length-take-le (keyEnd (levelAt FIRST) s) s (key-within s b e))
+
+number-of : (s : List ℕ) → length (starts (levelAt FIRST) s) ≡ length (groupsOf (levelAt FIRST) s)
+number-of s = sym (map-length (groupAt (levelAt FIRST) (keyOf s) s) (starts (levelAt FIRST) s))
+
 module _ (s t : List ℕ) (b : Bytes s) (c : Bytes t) (one : Accepted (levelAt FIRST) s) (two : Accepted (levelAt FIRST) t) where
   abbrev X : List Group
   X = groupsOf (levelAt FIRST) s
@@ -71,16 +81,6 @@ module _ (s t : List ℕ) (b : Bytes s) (c : Bytes t) (one : Accepted (levelAt F
       let is = same-true (keyBytes l s) (keyBytes l t) e in
       let far : keyEnd l t ≡ keyEnd l s = omega (arith, ap length is, length-take-le (keyEnd l s) s (key-within s b one), length-take-le (keyEnd l t) t (key-within t c two)) in
       record { first = one; second = two; from-first = refl; from-second = far; key = same-key s t (keyEnd l s) (keyEnd l t) (key-far s) (key-far t) is }
-
-  -- how long an accepted bundle is, and how many groups it has
-  size-of : (s : List ℕ) → Bytes s → Accepted (levelAt FIRST) s → length s ≡ keyEnd (levelAt FIRST) s + length (groupsBytes (groupsOf (levelAt FIRST) s))
-  size-of s b e =
-      let k = keyFields (keyDataOf (levelAt FIRST) s) in
-      let is = bundle-faithful .accepted s b e .1 ∙ joined-append k (groupsFields (groupsOf (levelAt FIRST) s)) in
-      omega (arith, ap length is, length-append (joined k) (groupsBytes (groupsOf (levelAt FIRST) s)), ap length (key-bytes s b e), length-take-le (keyEnd (levelAt FIRST) s) s (key-within s b e))
-
-  number-of : (s : List ℕ) → length (starts (levelAt FIRST) s) ≡ length (groupsOf (levelAt FIRST) s)
-  number-of s = sym (map-length (groupAt (levelAt FIRST) (keyOf s) s) (starts (levelAt FIRST) s))
 
   -- the bytes of the joined bundle: those of the key fields, then those of the groups
   pub joined-bytes : written (joinedBundle (levelAt FIRST) s t) ≡ keyBytes (levelAt FIRST) s ++ groupsBytes (union X Y)
@@ -153,9 +153,9 @@ module _ (s t : List ℕ) (room : ℕ) where
           by-room e = ap (planned (levelAt FIRST) s t) (sym (key-left ∙ pass 22 D agree ∙ stop 13 [] (lt-ltb _ _ e)))
 
           pub by-fit : length (written (joinedBundle (levelAt FIRST) s t)) ≤ room → {n g : ℕ} → n ≡ length (written (joinedBundle (levelAt FIRST) s t)) → g ≡ length (joinedBundle (levelAt FIRST) s t .groups)
-              → plan.Fits (record { start = keyEnd (levelAt FIRST) s; length = n; groups = g }) ≡ planned (levelAt FIRST) s t (firstOf (joinRows (levelAt FIRST) s t room))
+              → plan.Fits (record { start = keyEnd (levelAt FIRST) s; size = record { length = n; groups = g } }) ≡ planned (levelAt FIRST) s t (firstOf (joinRows (levelAt FIRST) s t room))
           by-fit e f h =
-              ap₂ (λ (n g : ℕ). plan.Fits (record { start = keyEnd (levelAt FIRST) s; length = n; groups = g })) f h
+              ap₂ (λ (n g : ℕ). plan.Fits (record { start = keyEnd (levelAt FIRST) s; size = record { length = n; groups = g } })) f h
               ∙ ap (planned (levelAt FIRST) s t) (sym (key-left ∙ pass 22 D agree ∙ pass 13 [] (le-ltb _ _ e)))
 
   -- what holds where no row applies
@@ -183,7 +183,7 @@ plan-refused s t answer.Done e = let z : _≡_ {A = ℕ} 0 1 = cc in absurd (ome
 plan-refused s t (answer.Refused r) e = cc
 
 pub plan-fits : (s t : List ℕ) (a : Answer) {p : Plan} → planned (levelAt FIRST) s t a ≡ plan.Fits p
-    → (a ≡ answer.Done) × (p ≡ record { start = keyEnd (levelAt FIRST) s; length = length (written (joinedBundle (levelAt FIRST) s t)); groups = length (joinedBundle (levelAt FIRST) s t .groups) })
+    → (a ≡ answer.Done) × (p ≡ record { start = keyEnd (levelAt FIRST) s; size = record { length = length (written (joinedBundle (levelAt FIRST) s t)); groups = length (joinedBundle (levelAt FIRST) s t .groups) } })
 plan-fits s t answer.Done e = (refl, cc)
 plan-fits s t (answer.Refused r) e = let z : _≡_ {A = ℕ} 0 1 = cc in absurd (omega arith)
 

@@ -1,4 +1,4 @@
--- What the entry join_bundles answers and writes.
+-- What the entries join_bundles and look_before_join answer, and what the first writes.
 use mathlib.Core.Bool.{Bool, not}
 use mathlib.Core.List.{List, [], _∷_, _++_}
 use Prim.Native.Nat.{ℕ}
@@ -45,7 +45,7 @@ module _ (l : Level) where
     abbrev pub joinRows : (room : ℕ) → List (Bool × ℕ)
     joinRows room = joinChecks ++ roomRow (length (written joinedBundle)) room
 
-    -- what is answered for an output of so many bytes
+    -- what both entries answer, for an output of so many bytes: of a look before the join "the answer is the one that the join itself would give"
     abbrev pub joinAnswer : (room : ℕ) → Joined
     joinAnswer room = sizeAs (firstOf (joinRows room)) (length (written joinedBundle)) (length (joinedBundle .groups))
 

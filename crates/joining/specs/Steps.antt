@@ -1,4 +1,4 @@
--- What the functions that join two bundles rely on and answer: inner data, no part of the entry's promise.
+-- What the functions that join two bundles rely on and answer: inner data, no part of the entries' promises.
 use mathlib.Core.Path.{_≡_}
 use mathlib.Core.Bool.{true, false}
 use mathlib.Core.List.{List}
@@ -45,5 +45,5 @@ Tallied xs ys tally.Differ = differ xs ys ≡ true
 -- the joined bundle that fits, or the refusal
 abbrev pub planned : (l : Level) (first second : List ℕ) → Answer → Planned
 planned l first second answer.Done =
-    plan.Fits (record { start = keyEnd l first; length = length (written (joinedBundle l first second)); groups = length (joinedBundle l first second .groups) })
+    plan.Fits (record { start = keyEnd l first; size = record { length = length (written (joinedBundle l first second)); groups = length (joinedBundle l first second .groups) } })
 planned l first second (answer.Refused r) = plan.Refused r

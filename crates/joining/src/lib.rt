@@ -1,6 +1,7 @@
-// The entry join_bundles: for records rooms that hold two bundles of one key.
+// The entries join_bundles and look_before_join: for records rooms that hold two bundles of one key.
 ghost use mathlib.Core.Path.{_≡_};
-ghost use Prim.Native.Nat.{_+_, _-_, _≤_};
+ghost use mathlib.Core.List.{List};
+ghost use Prim.Native.Nat.{ℕ, _+_, _-_, _≤_};
 ghost use lib.ListN.{length};
 ghost use Rattle.lists.specs.Words.{part, put};
 ghost use Rattle.refusal.specs.Answer.{firstOf};
@@ -12,7 +13,7 @@ ghost use Rattle.bundle.specs.Written.{Accepted};
 ghost use Rattle.joining.specs.declared.Size.{Size};
 ghost use Rattle.joining.specs.declared.Joined.the-variants as answer;
 ghost use Rattle.joining.specs.Union.{union, same};
-ghost use Rattle.joining.specs.Entry.{numberOf, joinRows, joinOutcome};
+ghost use Rattle.joining.specs.Entry.{numberOf, joinRows, joinAnswer, joinOutcome};
 ghost use Rattle.joining.specs.Laws.{ReadBack};
 ghost use Rattle.joining.specs.Steps.{Mates, groupsBytes, Tallied, planned};
 use bundle::Found;
@@ -26,7 +27,7 @@ pub struct Size {
     pub groups: usize,
 }
 
-// What join_bundles answers.
+// What join_bundles and look_before_join answer.
 pub enum Joined {
     Size(Size),
     Refused(Refusal),
@@ -44,11 +45,10 @@ pub enum Tally {
     Differ,
 }
 
-// A joined bundle that fits: where the groups start, in it and in both bundles, its length and the number of its groups.
+// A joined bundle that fits: where the groups start, in it and in both bundles, and its size.
 pub struct Plan {
     pub start: usize,
-    pub length: usize,
-    pub groups: usize,
+    pub size: Size,
 }
 
 // The joined bundle, or the refusal.
@@ -185,8 +185,7 @@ fn compare(first: &[u8], one: Groups, second: &[u8], two: Groups, room: usize) -
             let groups = one.number - both.number + two.number;
             Planned::Fits(Plan {
                 start,
-                length,
-                groups,
+                size: Size { length, groups },
             })
         }
     }
@@ -234,10 +233,22 @@ pub fn join_bundles(first: &[u8], second: &[u8], out: &mut [u8]) -> Joined
             let start = plan.start;
             put_part(first, 0, start, 0, out);
             put_groups(first, second, start, out);
-            Joined::Size(Size {
-                length: plan.length,
-                groups: plan.groups,
-            })
+            let size = plan.size;
+            Joined::Size(size)
+        }
+    }
+}
+
+// What join_bundles answers with an output of so many bytes; nothing is written.
+pub fn look_before_join(first: &[u8], second: &[u8], room: usize) -> Joined
+    ensures outcome { λ r. ⌜ r ≡ joinAnswer (levelAt FIRST) (now (first .entry)) (now (second .entry)) room ⌝ }
+    ensures ahead { λ r. ⌜ ((out : List ℕ) → length out ≡ room → r ≡ joinOutcome (levelAt FIRST) (now (first .entry)) (now (second .entry)) out .0) ⌝ }
+{
+    match look(first, second, room) {
+        Planned::Refused(refusal) => Joined::Refused(refusal),
+        Planned::Fits(plan) => {
+            let told = plan.size;
+            Joined::Size(told)
         }
     }
 }

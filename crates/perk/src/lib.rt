@@ -1,6 +1,9 @@
 // The C interface: a slice is a pointer and then a length in elements; 0 is done or accepted, 255 is rejected,
 // any other result is the refusal's number.
 ghost use mathlib.Core.Path.{_≡_};
+ghost use mathlib.Core.List.{List};
+ghost use Prim.Native.Nat.{ℕ};
+ghost use lib.ListN.{length as size};
 ghost use Rattle.refusal.specs.Answer.{numbered};
 ghost use Rattle.refusal.specs.Verdict.{verdictNumber};
 ghost use Rattle.arithmetic.specs.Entry.{sumOutcome, productOutcome};
@@ -15,7 +18,7 @@ ghost use Rattle.package.specs.Reading.{packageReader, checkFileReader, reading
 ghost use Rattle.checkfile.specs.Checking.{checkNumber, checking};
 ghost use Rattle.rank.specs.Entry.{rankOutcome, Tells};
 ghost use Rattle.bundle.specs.Reading.{reading as readingBundle};
-ghost use Rattle.joining.specs.Entry.{joinOutcome};
+ghost use Rattle.joining.specs.Entry.{joinAnswer, joinOutcome};
 ghost use Rattle.joining.specs.Laws.{ReadBack as ReadJoined};
 ghost use Rattle.perk.specs.Files.{SmallSizes, readPut, SmallBundle, bundlePut, spanOf};
 ghost use Rattle.writer.specs.Entry.{writeOutcome, writeLeans};
@@ -255,6 +258,25 @@ pub extern "C" fn perk_join_bundles(
     ensures reads { λ r. ⌜ (r ≡ 0 → ReadJoined (levelAt FIRST) (now (first .entry)) (now (second .entry)) (record { length = now (length .exit); groups = now (groups .exit) }) (now (out .exit))) ⌝ }
 {
     put_size(joining::join_bundles(first, second, out), length, groups)
+}
+
+// What perk_join_bundles answers with an output of so many bytes.
+#[no_mangle]
+pub extern "C" fn perk_look_before_join(
+    first: &[u8],
+    second: &[u8],
+    room: usize,
+    length: &mut usize,
+    groups: &mut usize,
+) -> u32
+    ensures outcome { λ r. ⌜ (r, (now (length .exit), now (groups .exit))) ≡ sizeOr (joinAnswer (levelAt FIRST) (now (first .entry)) (now (second .entry)) room) (now (length .entry), now (groups .entry)) ⌝ }
+    ensures ahead { λ r. ⌜ ((out : List ℕ) → size out ≡ room → (r, (now (length .exit), now (groups .exit))) ≡ sizeOr (joinOutcome (levelAt FIRST) (now (first .entry)) (now (second .entry)) out .0) (now (length .entry), now (groups .entry))) ⌝ }
+{
+    put_size(
+        joining::look_before_join(first, second, room),
+        length,
+        groups,
+    )
 }
 
 // The number of an answer; the length is written where it is no refusal.

@@ -2,8 +2,8 @@
 //! on some that are refused.
 
 use crate::implementation::{
-    material, written_words, Found, Implementation, ALL, FILED, JOIN, KEYED, RANK, READ_BUNDLE,
-    WRITE,
+    material, written_words, Found, Implementation, ALL, FILED, JOIN, KEYED, LOOK, RANK,
+    READ_BUNDLE, WRITE,
 };
 use reference::package::{bundle_bytes, package_bytes, Group};
 use reference::samples::{Generator, Leaning, Material, Sample};
@@ -274,43 +274,86 @@ fn two_bundles(n: usize, generator: &mut Generator) -> [Vec<u8>; 2] {
     bundles
 }
 
+/// What a number holds that no call has written.
+const UNWRITTEN: usize = 99_999;
+
+/// What the join or the look before it answers, and the length and the number of
+/// groups that it writes.
+type Sized = (u32, [usize; 2]);
+
+/// Tries the entries read bundle and join bundles, with this output: what the join
+/// answers.
+fn joins(bundles: [&[u8]; 2], out: &[u8]) -> Result<Sized, String> {
+    let [first, second] = bundles;
+    let mut joined = (0, [UNWRITTEN; 2]);
+    let outcomes = ALL
+        .iter()
+        .filter_map(|one| one.bundles)
+        .map(|(read, join)| {
+            let (mut n, mut m, mut of_first) = (0, 0, UNWRITTEN);
+            let [mut length, mut groups] = [UNWRITTEN; 2];
+            let mut out = out.to_vec();
+            let answers = [
+                read(first, &mut n, &mut m, &mut of_first),
+                join(first, second, &mut out, &mut length, &mut groups),
+            ];
+            joined = (answers[1], [length, groups]);
+            (answers, n, m, of_first, joined, out)
+        });
+    if !same(outcomes) {
+        return Err(format!("{READ_BUNDLE} or {JOIN}"));
+    }
+    Ok(joined)
+}
+
+/// Tries the entry look before join: with this room, for which it answers what the
+/// join does, with the length that the join answers and one less, and with the least
+/// room and the largest.
+fn looks([first, second]: [&[u8]; 2], room: usize, joined: Sized) -> Result<(), String> {
+    let (_, [length, _]) = joined;
+    let others = [length, length - 1, 0, usize::MAX].map(|room| (room, None));
+    for (room, joined) in [(room, Some(joined))].into_iter().chain(others) {
+        let outcomes = ALL.iter().filter_map(|one| one.look).map(|look| {
+            let [mut length, mut groups] = [UNWRITTEN; 2];
+            let answer = look(first, second, room, &mut length, &mut groups);
+            (answer, [length, groups])
+        });
+        if !same(outcomes.chain(joined)) {
+            return Err(format!("{LOOK} with a room of {room}"));
+        }
+    }
+    Ok(())
+}
+
 /// Tries the entries on bundles, of all sizes with some faults, and with outputs
 /// as long as both bundles, longer and shorter ones.
 fn bundles(generator: &mut Generator) -> Result<(), String> {
-    let (mut done, mut refused) = (0, 0);
+    let (mut done, mut refused, mut short) = (0, 0, 0);
     for n in 2..=64 {
         for _ in 0..12 {
-            let [first, second] = two_bundles(n, generator);
-            let most = first.len() + second.len();
+            let bundles = two_bundles(n, generator);
+            let bundles = bundles.each_ref().map(|bytes| &bytes[..]);
+            let most = bundles.concat().len();
             let room = match generator.below(4) {
                 0 => generator.below(most),
                 1 => most + 1 + generator.below(100),
                 _ => most,
             };
             let out: Vec<u8> = (0..room).map(|_| generator.number() as u8).collect();
-            let outcomes = ALL
-                .iter()
-                .filter_map(|one| one.bundles)
-                .map(|(read, join)| {
-                    let (mut sizes, mut numbers) = ([0, 0], [99_999; 3]);
-                    let [n, m] = &mut sizes;
-                    let [of_first, length, groups] = &mut numbers;
-                    let mut out = out.clone();
-                    let answers = [
-                        read(&first, n, m, of_first),
-                        join(&first, &second, &mut out, length, groups),
-                    ];
-                    done += usize::from(answers[1] == 0);
-                    refused += usize::from(answers[1] != 0);
-                    (answers, sizes, numbers, out)
-                });
-            if !same(outcomes) {
-                return Err(format!("{READ_BUNDLE} or {JOIN} at n = {n}"));
+            let joined = joins(bundles, &out);
+            let tried = joined.and_then(|joined| looks(bundles, room, joined).map(|()| joined.0));
+            let answer = tried.map_err(|names| format!("{names} at n = {n}"))?;
+            match answer {
+                0 => done += 1,
+                _ if answer == Refusal::ShortOutput.number() => short += 1,
+                _ => refused += 1,
             }
         }
     }
-    if done < 100 || refused < 100 {
-        return Err(format!("{JOIN} is tried too little: {done}, {refused}"));
+    if done < 100 || refused < 100 || short < 40 {
+        return Err(format!(
+            "{JOIN} is tried too little: {done}, {refused}, {short}"
+        ));
     }
     Ok(())
 }

@@ -1,7 +1,7 @@
 //! Bundles: what their entries are called with.
 
 use crate::cases::copying;
-use crate::implementation::{OnBundle, OnBundles, ALL, JOIN, READ_BUNDLE};
+use crate::implementation::{OnBundle, OnBundles, OnRoom, ALL, JOIN, LOOK, READ_BUNDLE};
 use crate::measure::{Calls, Row, Subject};
 use reference::package::{bundle_bytes, Group};
 use reference::samples::{Generator, Material};
@@ -126,7 +126,26 @@ fn joining(entry: OnBundles, pair: &Pair) -> Calls<'_> {
     })
 }
 
-/// The rows of both entries.
+/// Calls that look before the bundles of a pair are joined, with a room as long as
+/// the joined bundle.
+fn looking(entry: OnRoom, pair: &Pair) -> Calls<'_> {
+    let expected = (0, pair.joined.len(), 2 * pair.groups);
+    Box::new(move |count| {
+        for _ in 0..count {
+            let (mut length, mut groups) = (0, 0);
+            let answer = entry(
+                black_box(&pair.first),
+                black_box(&pair.second),
+                black_box(pair.joined.len()),
+                &mut length,
+                &mut groups,
+            );
+            assert_eq!((answer, length, groups), expected);
+        }
+    })
+}
+
+/// The rows of all entries.
 pub fn rows<'a>(pairs: &'a [Pair], rows: &mut Vec<Row<'a>>) {
     let mut push = |entry, form, calls| {
         rows.push(Row {
@@ -153,6 +172,19 @@ pub fn rows<'a>(pairs: &'a [Pair], rows: &mut Vec<Row<'a>>) {
             .map(|entries| entries.map(|(_, join)| joining(join, pair)));
         push(JOIN, pair.forms[1], calls.collect());
     }
+    for pair in pairs {
+        let calls = ALL.iter().map(|one| Some(looking(one.look?, pair)));
+        push(LOOK, pair.forms[1], calls.collect());
+    }
+}
+
+/// What the calls of an entry on bundles are compared with.
+#[derive(Clone, Copy, Debug, PartialEq)]
+pub enum Beside {
+    /// Copies of the bundle that is read or written.
+    Copies,
+    /// Joins of the same bundles.
+    Joins,
 }
 
 /// What is timed of an entry on bundles of one implementation.
@@ -167,17 +199,17 @@ pub struct Bundling<'a> {
     pub groups: usize,
     /// The bytes of the bundle that is read or written.
     pub bytes: usize,
-    /// Its calls, those that make the checks of the key alone, and copies.
+    /// Its calls, those that make the checks of the key alone, and those that it is
+    /// compared with.
     pub calls: [Calls<'a>; 3],
+    /// What the last ones are.
+    pub beside: Beside,
 }
 
-/// The entries on bundles of the implementations whose instructions are counted.
-pub fn bundlings(pairs: &[Pair]) -> Vec<Bundling<'_>> {
-    let mut list = Vec::new();
-    let counted = ALL.iter().filter(|one| one.counted);
-    let present = counted.filter_map(|one| Some((one.name, one.bundles?)));
-    for (name, (read, join)) in present {
-        list.extend(pairs.iter().map(|pair| Bundling {
+impl<'a> Bundling<'a> {
+    /// Of the first bundle of a pair, which is read.
+    fn of_first(name: &'static str, read: OnBundle, pair: &'a Pair) -> Bundling<'a> {
+        Bundling {
             entry: READ_BUNDLE,
             name,
             sizes: pair.sizes,
@@ -188,18 +220,46 @@ pub fn bundlings(pairs: &[Pair]) -> Vec<Bundling<'_>> {
                 reading_key(read, pair),
                 copying(pair.first.clone()),
             ],
-        }));
-        list.extend(pairs.iter().map(|pair| Bundling {
-            entry: JOIN,
+            beside: Beside::Copies,
+        }
+    }
+
+    /// Of both bundles of a pair: these calls of an entry, compared with others.
+    fn of_both(
+        (entry, name): (&'static str, &'static str),
+        read: OnBundle,
+        pair: &'a Pair,
+        calls: Calls<'a>,
+        (beside, others): (Beside, Calls<'a>),
+    ) -> Bundling<'a> {
+        Bundling {
+            entry,
             name,
             sizes: pair.sizes,
             groups: 2 * pair.groups,
             bytes: pair.joined.len(),
-            calls: [
-                joining(join, pair),
-                reading_key(read, pair),
-                copying(pair.joined.clone()),
-            ],
+            calls: [calls, reading_key(read, pair), others],
+            beside,
+        }
+    }
+}
+
+/// The entries on bundles of the implementations whose instructions are counted.
+pub fn bundlings(pairs: &[Pair]) -> Vec<Bundling<'_>> {
+    let mut list = Vec::new();
+    let counted = ALL.iter().filter(|one| one.counted);
+    let present = counted.filter_map(|one| Some((one.name, one.bundles?, one.look)));
+    for (name, (read, join), look) in present {
+        let reads = pairs.iter();
+        list.extend(reads.map(|pair| Bundling::of_first(name, read, pair)));
+        list.extend(pairs.iter().map(|pair| {
+            let copies = (Beside::Copies, copying(pair.joined.clone()));
+            Bundling::of_both((JOIN, name), read, pair, joining(join, pair), copies)
+        }));
+        list.extend(pairs.iter().filter_map(|pair| {
+            let calls = looking(look?, pair);
+            let joins = (Beside::Joins, joining(join, pair));
+            Some(Bundling::of_both((LOOK, name), read, pair, calls, joins))
         }));
     }
     list

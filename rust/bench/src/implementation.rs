@@ -25,6 +25,10 @@ pub type OnBundle = fn(&[u8], &mut u32, &mut u32, &mut usize) -> u32;
 /// number of groups, which it writes too.
 pub type OnBundles = fn(&[u8], &[u8], &mut [u8], &mut usize, &mut usize) -> u32;
 
+/// The entry look before join: the room, and the length and the number of groups,
+/// which it writes.
+pub type OnRoom = fn(&[u8], &[u8], usize, &mut usize, &mut usize) -> u32;
+
 /// What the entries on bytes write.
 #[derive(Clone, Debug, Default, PartialEq)]
 pub struct Found {
@@ -53,6 +57,7 @@ pub const WRITE: &str = "write_package";
 /// The names of the entries on bundles.
 pub const READ_BUNDLE: &str = "read_bundle";
 pub const JOIN: &str = "join_bundles";
+pub const LOOK: &str = "look_before_join";
 
 /// The place of prove among those with a key.
 const PROVE: usize = 2;
@@ -75,6 +80,8 @@ pub struct Implementation {
     pub write: Option<OnPackage>,
     /// The entries read bundle and join bundles, where it has them.
     pub bundles: Option<(OnBundle, OnBundles)>,
+    /// The entry look before join, where it has it.
+    pub look: Option<OnRoom>,
     /// The entries with a key.
     pub keyed: [OnKey; 4],
     /// The entries on bytes, where it has them.
@@ -149,10 +156,10 @@ macro_rules! bundles {
 }
 
 /// The implementation of a module, with its name, its entries rank and write
-/// package, its entries on bundles and on bytes, and whether its instructions are
-/// counted.
+/// package, its entries on bundles, the look before the join, its entries on bytes,
+/// and whether its instructions are counted.
 macro_rules! implementation {
-    ($module:path, $name:literal, $rank:expr, $write:expr, $bundles:expr, $filed:expr, $counted:literal) => {{
+    ($module:path, $name:literal, $rank:expr, $write:expr, $bundles:expr, $look:expr, $filed:expr, $counted:literal) => {{
         use $module as module;
         Implementation {
             name: $name,
@@ -161,6 +168,7 @@ macro_rules! implementation {
             rank: $rank,
             write: $write,
             bundles: $bundles,
+            look: $look,
             keyed: keyed!($module),
             filed: $filed,
             counted: $counted,
@@ -189,6 +197,13 @@ const OTHER_BUNDLES: Option<(OnBundle, OnBundles)> = bundles!(library::other);
 #[cfg(all(feature = "other", not(other_join_bundles)))]
 const OTHER_BUNDLES: Option<(OnBundle, OnBundles)> = None;
 
+/// The entry look before join of another build that has it.
+#[cfg(all(feature = "other", other_look_before_join))]
+const OTHER_LOOK: Option<OnRoom> = Some(library::other::look_before_join);
+/// The entry look before join of another build from before it.
+#[cfg(all(feature = "other", not(other_look_before_join)))]
+const OTHER_LOOK: Option<OnRoom> = None;
+
 /// The implementations, in the order of the columns.
 pub const ALL: &[Implementation] = &[
     implementation!(
@@ -197,16 +212,27 @@ pub const ALL: &[Implementation] = &[
         Some(library::rank),
         writer!(library),
         bundles!(library),
+        Some(library::look_before_join),
         filed!(library),
         true
     ),
-    implementation!(packed, "Rust", Some(packed::rank), None, None, None, true),
+    implementation!(
+        packed,
+        "Rust",
+        Some(packed::rank),
+        None,
+        None,
+        None,
+        None,
+        true
+    ),
     implementation!(
         of_reference,
         "reference",
         Some(of_reference::rank),
         writer!(of_reference),
         bundles!(of_reference),
+        Some(of_reference::look_before_join),
         filed!(of_reference),
         false
     ),
@@ -217,6 +243,7 @@ pub const ALL: &[Implementation] = &[
         OTHER_RANK,
         OTHER_WRITE,
         OTHER_BUNDLES,
+        OTHER_LOOK,
         filed!(library::other),
         true
     ),

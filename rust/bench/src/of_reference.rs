@@ -1,6 +1,6 @@
 //! The entries of the reference as functions like those of `comparison::library`.
 
-use reference::{Contents, Key, Refusal, Verdict};
+use reference::{Contents, Joined, Key, Refusal, Verdict};
 
 /// The number of an answer.
 fn number(answer: Result<(), Refusal>) -> u32 {
@@ -64,6 +64,11 @@ pub fn read_bundle(bytes: &[u8], n: &mut u32, m: &mut u32, groups: &mut usize) -
     }))
 }
 
+/// Writes what the join or the look before it answers.
+fn sized(answer: Result<Joined, Refusal>, length: &mut usize, groups: &mut usize) -> u32 {
+    number(answer.map(|joined| (*length, *groups) = (joined.length, joined.groups)))
+}
+
 /// The entry join bundles.
 pub fn join_bundles(
     first: &[u8],
@@ -72,8 +77,19 @@ pub fn join_bundles(
     length: &mut usize,
     groups: &mut usize,
 ) -> u32 {
-    let answer = reference::join_bundles(first, second, out);
-    number(answer.map(|joined| (*length, *groups) = (joined.length, joined.groups)))
+    sized(reference::join_bundles(first, second, out), length, groups)
+}
+
+/// The entry look before join.
+pub fn look_before_join(
+    first: &[u8],
+    second: &[u8],
+    room: usize,
+    length: &mut usize,
+    groups: &mut usize,
+) -> u32 {
+    let answer = reference::look_before_join(first, second, room);
+    sized(answer, length, groups)
 }
 
 /// Writes what a reader answers.

@@ -1,6 +1,6 @@
 //! The tables, as Markdown with columns of even width.
 
-use crate::bundles::Bundling;
+use crate::bundles::{Beside, Bundling};
 use crate::cases::{Writing, ONE_PRODUCT, SIZES};
 use crate::implementation::{other_name, ALL, KEYED, LIBRARY, OTHER, RANK, REFERENCE, RUST};
 use crate::measure::{median, triples, Measured, LEAST, TURNS};
@@ -277,6 +277,7 @@ fn bundled(bundling: Bundling, before: &mut Vec<Beyond>) -> Vec<String> {
         groups,
         bytes,
         calls,
+        beside,
     } = bundling;
     let turns = triples(calls);
     let of_turns = |of: fn(&[f64; 3]) -> f64| median(turns.iter().map(of).collect());
@@ -285,6 +286,8 @@ fn bundled(bundling: Bundling, before: &mut Vec<Beyond>) -> Vec<String> {
     let tenth = before.iter().find(|(which, _)| *which == tenth);
     let growth = tenth.and_then(|&(_, tenth)| ratio(beyond, tenth));
     before.push(((entry, name, sizes, groups), beyond));
+    let of_copies = |of| of_turns(of).filter(|_| beside == Beside::Copies);
+    let of_joins = |of| of_turns(of).filter(|_| beside == Beside::Joins);
     vec![
         format!("`{entry}`"),
         name.to_string(),
@@ -293,22 +296,24 @@ fn bundled(bundling: Bundling, before: &mut Vec<Beyond>) -> Vec<String> {
         bytes.to_string(),
         microseconds(of_turns(|turn| turn[0])),
         microseconds(of_turns(|turn| turn[1])),
-        microseconds(of_turns(|turn| turn[2])),
+        microseconds(of_copies(|turn| turn[2])),
         microseconds(beyond),
         shown(beyond, |beyond| short(beyond / groups as f64)),
-        shown(of_turns(|[call, key, copy]| (call - key) / copy), short),
+        shown(of_copies(|[call, key, copy]| (call - key) / copy), short),
         shown(growth, short),
+        three_decimals(of_joins(|[call, _, join]| call / join)),
     ]
 }
 
 /// Times the entries on bundles, and prints the table.
 pub fn bundles(bundlings: Vec<Bundling>) {
     println!("## Bundles\n");
-    println!("`read_bundle` of a bundle, and `join_bundles` of two bundles that have half of the groups each, their serials in turn; of all serials half have two");
-    println!("bytes. The key's checks are timed by `read_bundle` of the key fields alone, which answers 9 after them; `join_bundles` makes them once, as both bundles have the same. A copy is");
-    println!("`memcpy` of the bundle that is read, or of the joined one. In each turn the three are called one after another, each after one more call that is not");
-    println!("timed. Of the turns' values these are medians too: the time beyond the key's checks, and that time over a copy. The last column is the time beyond the");
-    println!("key's checks over that of a tenth of the groups.\n");
+    println!("`read_bundle` of a bundle, and `join_bundles` and `look_before_join` of two bundles that have half of the groups each, their serials in turn; of all");
+    println!("serials half have two bytes. `bytes` is the length of the bundle that is read, or of the joined one, which is also the room of the look. The key's checks");
+    println!("are timed by `read_bundle` of the key fields alone, which answers 9 after them; join and look make them once, as both bundles have the same. A copy is");
+    println!("`memcpy` of these bytes; the look writes none, and is timed beside the join of the same bundles instead. In each turn the three are called one after");
+    println!("another, each after one more call that is not timed. Of the turns' values these are medians too: the time beyond the key's checks, that time over a copy,");
+    println!("and the look's whole time over the join's. `growth` is the time beyond the key's checks over that of a tenth of the groups.\n");
     let heading = [
         "entry",
         "implementation",
@@ -322,6 +327,7 @@ pub fn bundles(bundlings: Vec<Bundling>) {
         "ns per group",
         "beyond/copy",
         "growth",
+        "look/join",
     ];
     let mut before = Vec::new();
     let bundlings = bundlings.into_iter();

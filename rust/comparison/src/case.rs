@@ -157,6 +157,22 @@ impl Group {
         Group { name, ..self }
     }
 
+    /// The group with other cases.
+    pub const fn with_cases(self, cases: Cases) -> Group {
+        Group { cases, ..self }
+    }
+
+    /// Hands over one in so many of its cases.
+    pub fn one_in(&self, count: usize, generator: &mut Generator, each: &mut dyn FnMut(Case)) {
+        let mut turn = 0;
+        (self.cases)(generator, &mut |case| {
+            turn += 1;
+            if turn % count == 0 {
+                each(case);
+            }
+        });
+    }
+
     /// The group, compared with the package packed.
     pub const fn by_packed(self) -> Group {
         let expected = Expected::Packed;

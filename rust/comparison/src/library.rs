@@ -205,6 +205,24 @@ macro_rules! build {
             }
         }
 
+        /// The entry look before join: writes the length and the number of groups
+        /// of the joined bundle, for an output of this many bytes.
+        pub fn look_before_join(
+            first: &[u8],
+            second: &[u8],
+            room: usize,
+            length: &mut usize,
+            groups: &mut usize,
+        ) -> u32 {
+            let (first, first_len) = (first.as_ptr(), first.len());
+            let (second, second_len) = (second.as_ptr(), second.len());
+            // SAFETY: the slices are valid for their lengths, and the numbers don't
+            // overlap them or one another.
+            unsafe {
+                c::perk_look_before_join(first, first_len, second, second_len, room, length, groups)
+            }
+        }
+
         /// The entry field of a package: writes where the part starts in the
         /// bytes, and answers its length.
         pub fn field(bytes: &[u8], tag: u8, start: &mut usize) -> usize {

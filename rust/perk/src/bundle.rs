@@ -14,10 +14,11 @@ pub struct Bundle {
     pub groups: usize,
 }
 
-/// What [`join_bundles`] has written.
+/// The size of a joined bundle, which [`join_bundles`] has written, or which
+/// [`look_before_join`] tells before it is written.
 #[derive(Clone, Copy, Debug, PartialEq, Eq)]
 pub struct Joined {
-    /// The bytes of the joined bundle, with which the output begins.
+    /// The number of its bytes; the output of the join begins with them.
     pub length: usize,
     /// The number of its groups.
     pub groups: usize,
@@ -72,7 +73,7 @@ pub fn read_bundle(bytes: &[u8]) -> Result<Bundle, Refusal> {
 /// - `first`, `second`: bundles as [`read_bundle`] takes them; they may be the same
 ///   slice. A package is a bundle of one group.
 /// - `out`: at least the length of the joined bundle, written. The sum of both
-///   lengths is always enough.
+///   lengths is always enough, and [`look_before_join`] tells the length itself.
 ///
 /// Two groups with one serial are taken once where their t and a are the same, so a
 /// bundle is joined with itself, or with some of its own groups, to its own bytes.
@@ -147,6 +148,81 @@ pub fn join_bundles(first: &[u8], second: &[u8], out: &mut [u8]) -> Result<Joine
             second.len(),
             out.as_mut_ptr(),
             out.len(),
+            &mut length,
+            &mut groups,
+        )
+    };
+    refusal::answer(number).map(|()| Joined { length, groups })
+}
+
+/// What [`join_bundles`] answers for these two bundles with an output of `room`
+/// bytes, before any output is lent: the length and the number of groups of the
+/// joined bundle, or the refusal. Nothing is written.
+///
+/// - `first`, `second`: as in [`join_bundles`].
+/// - `room`: the length of the output that is meant to be lent; any number.
+///   [`usize::MAX`] is never too short.
+///
+/// Proved besides: for every `out` of `room` bytes [`join_bundles`] has the same
+/// answer; a room of both lengths together or more is never refused with
+/// [`Refusal::ShortOutput`]; where a length is told, for whatever room, an `out` of
+/// exactly that length gets the same answer from [`join_bundles`]; and a refusal
+/// other than `ShortOutput` is the same for every room.
+///
+/// # Errors
+///
+/// Those of [`join_bundles`], in the same order, with [`Refusal::ShortOutput`] last,
+/// where `room` is below the length of the joined bundle.
+///
+/// # Examples
+///
+/// A records room joins packages of key A of the specification, with the serials 7
+/// and 65536, into an output of exactly the length, and learns beforehand what is
+/// refused:
+///
+/// ```
+/// use perk::{Key, Refusal};
+///
+/// # fn main() -> Result<(), Refusal> {
+/// # let key = Key { n: 2, m: 1, h: &[2, 1], x: &[1, 2], y: &[0] };
+/// # let package = |serial, t: [u8; 2]| {
+/// #     let mut out = vec![0; perk::LARGEST_PACKAGE_BYTES];
+/// #     let length = perk::write_package(key, serial, &t, &[0; 12], &mut out)?;
+/// #     out.truncate(length);
+/// #     Ok(out)
+/// # };
+/// // `package` writes one with this serial and this t
+/// let (first, second) = (package(65536, [1, 1])?, package(7, [0, 1])?);
+///
+/// let told = perk::look_before_join(&first, &second, usize::MAX)?;
+/// // the 19 bytes of fields 01 to 03, once, and groups of 37 and 39
+/// assert_eq!((told.length, told.groups), (19 + 37 + 39, 2));
+/// let mut out = vec![0; told.length];
+/// assert_eq!(perk::join_bundles(&first, &second, &mut out), Ok(told));
+/// assert_eq!(out, [&second[..], &first[19..]].concat());
+///
+/// // a buffer of 94 bytes would be too short
+/// let answer = perk::look_before_join(&first, &second, 94);
+/// assert_eq!(answer, Err(Refusal::ShortOutput));
+/// // another t with the serial 7 is refused, whatever the room
+/// let answer = perk::look_before_join(&out, &package(7, [1, 1])?, 94);
+/// assert_eq!(answer, Err(Refusal::GroupsDiffer));
+/// # Ok(())
+/// # }
+/// ```
+pub fn look_before_join(first: &[u8], second: &[u8], room: usize) -> Result<Joined, Refusal> {
+    let (mut length, mut groups) = (0, 0);
+    // SAFETY: each pointer stands with the length of its slice, so they name memory
+    // that is valid to read; `room` is a number and names no memory. `length` and
+    // `groups` are exclusive borrows of different variables, so neither overlaps the
+    // other or a slice.
+    let number = unsafe {
+        c::perk_look_before_join(
+            first.as_ptr(),
+            first.len(),
+            second.as_ptr(),
+            second.len(),
+            room,
             &mut length,
             &mut groups,
         )

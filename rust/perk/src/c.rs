@@ -201,6 +201,17 @@ macro_rules! declarations {
                 length: *mut usize,
                 groups: *mut usize,
             ) -> u32;
+
+            #[link_name = concat!($prefix, "perk_look_before_join")]
+            pub fn perk_look_before_join(
+                first: *const u8,
+                first_len: usize,
+                second: *const u8,
+                second_len: usize,
+                room: usize,
+                length: *mut usize,
+                groups: *mut usize,
+            ) -> u32;
         }
     };
 }

@@ -190,7 +190,7 @@
 //! ```
 //!
 //! To join packages, or bundles of packages, of one key: [`join_bundles`] has an
-//! example.
+//! example, and [`look_before_join`] one that lends an output of exactly the length.
 //!
 //! For the coefficients of the polynomials, the values, and products in K:
 //!
@@ -249,7 +249,7 @@ pub mod c;
 mod package;
 mod refusal;
 
-pub use bundle::{join_bundles, read_bundle, Bundle, Joined};
+pub use bundle::{join_bundles, look_before_join, read_bundle, Bundle, Joined};
 pub use package::{
     check, field, package_of, read_check_file, read_package, write_package, Contents,
     LARGEST_PACKAGE_BYTES,

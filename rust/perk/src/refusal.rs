@@ -40,7 +40,9 @@ pub enum Refusal {
     BytesFollow = 12,
     /// 13: the output is shorter than what is to be written. Of
     /// [`write_package`](crate::write_package) and
-    /// [`join_bundles`](crate::join_bundles), after all their other refusals.
+    /// [`join_bundles`](crate::join_bundles), and of
+    /// [`look_before_join`](crate::look_before_join) for an output that is meant to
+    /// be lent, after all their other refusals.
     ShortOutput = 13,
     /// 14: the field 04 of a file is present, and all its elements are zero.
     ZeroTarget = 14,
@@ -57,10 +59,13 @@ pub enum Refusal {
     /// it. An equal one is not.
     SerialOrder = 20,
     /// 21: the two bundles have different key fields, fields 01 to 04. Of
-    /// [`join_bundles`](crate::join_bundles), after all refusals of both bundles.
+    /// [`join_bundles`](crate::join_bundles) and
+    /// [`look_before_join`](crate::look_before_join), after all refusals of both
+    /// bundles.
     OtherKey = 21,
     /// 22: two groups with one serial differ in t or a, the fields 06 and 07. Of
-    /// [`join_bundles`](crate::join_bundles).
+    /// [`join_bundles`](crate::join_bundles) and
+    /// [`look_before_join`](crate::look_before_join).
     GroupsDiffer = 22,
 }
 

@@ -1,12 +1,22 @@
 //! The bundles of vectors/bundle.txt: what the reference answered for each, and
-//! what it wrote.
+//! what it wrote; for two bundles, what it told before.
 
-use perk::{join_bundles, read_bundle, Bundle, Joined, Refusal};
+use perk::{join_bundles, look_before_join, read_bundle, Bundle, Joined, Refusal};
 
 const TEXT: &str = include_str!("../../../vectors/bundle.txt");
 
 /// What outputs hold before a call.
 const BYTE: u8 = 0xA5;
+
+/// The names of the lines with which parts begin.
+const KINDS: [&str; 6] = [
+    "case",
+    "refused",
+    "join",
+    "join_refused",
+    "look",
+    "look_refused",
+];
 
 /// A part of the file: its lines, each a name and a value.
 struct Part(Vec<(&'static str, &'static str)>);
@@ -21,6 +31,15 @@ impl Part {
     fn values<'a>(&'a self, name: &'a str) -> impl Iterator<Item = &'static str> + 'a {
         let lines = self.0.iter().filter(move |(other, _)| *other == name);
         lines.map(|(_, value)| *value)
+    }
+
+    /// The numbers in the lines with this name, at least one.
+    fn numbers(&self, name: &str) -> Vec<usize> {
+        let numbers = self.values(name).map(|value| value.parse());
+        let numbers: Result<Vec<usize>, _> = numbers.collect();
+        let numbers = numbers.expect("numbers");
+        assert!(!numbers.is_empty(), "{name}");
+        numbers
     }
 
     /// The number in the one line with this name.
@@ -54,7 +73,7 @@ fn parts(kind: &str) -> Vec<Part> {
     let mut parts: Vec<Part> = vec![];
     for line in TEXT.lines() {
         let (name, value) = line.split_once(' ').expect("a name and a value");
-        if ["case", "refused", "join", "join_refused"].contains(&name) {
+        if KINDS.contains(&name) {
             parts.push(Part(vec![]));
         }
         parts.last_mut().expect("a part").0.push((name, value));
@@ -127,4 +146,44 @@ fn joins_that_are_refused() {
         );
         assert_eq!(out, vec![BYTE; length], "{name}");
     }
+}
+
+/// Calls `test` with each look of this kind and the two bundles that it is for:
+/// those of the join of that kind with the same name.
+fn for_each_look(kind: &str, of: &str, test: impl Fn(&Part, &[u8], &[u8])) {
+    let (looks, joins) = (parts(kind), parts(of));
+    assert_eq!(looks.len(), joins.len());
+    for (look, join) in looks.iter().zip(&joins) {
+        assert_eq!(look.name(), join.name());
+        test(look, &join.bytes("first"), &join.bytes("second"));
+    }
+}
+
+/// What a look answers for each room that lines of this name have.
+fn told(look: &Part, rooms: &str, first: &[u8], second: &[u8], stated: Result<Joined, Refusal>) {
+    for room in look.numbers(rooms) {
+        let answer = look_before_join(first, second, room);
+        assert_eq!(answer, stated, "{}, {room}", look.name());
+    }
+}
+
+#[test]
+fn looks_before_joins() {
+    for_each_look("look", "join", |look, first, second| {
+        let stated = Joined {
+            length: look.number("length"),
+            groups: look.number("groups"),
+        };
+        told(look, "room", first, second, Ok(stated));
+        let refusal = look.refusal("short_answer");
+        told(look, "short_room", first, second, Err(refusal));
+    });
+}
+
+#[test]
+fn looks_before_refused_joins() {
+    for_each_look("look_refused", "join_refused", |look, first, second| {
+        let refusal = look.refusal("answer");
+        told(look, "room", first, second, Err(refusal));
+    });
 }

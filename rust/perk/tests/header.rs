@@ -137,7 +137,7 @@ fn declarations_agree() {
     let rattle = of_rattle();
     let header = of_header();
     let rust = of_rust();
-    assert!(rattle.len() >= 14 && rattle["perk_sum"].1.len() == 6);
+    assert!(rattle.len() >= 15 && rattle["perk_sum"].1.len() == 6);
     assert!(rattle.keys().eq(header.keys()), "perk.h: other functions");
     assert!(rattle.keys().eq(rust.keys()), "c.rs: other functions");
     for (name, function) in rattle {

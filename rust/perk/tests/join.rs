@@ -1,12 +1,13 @@
-//! Joining bundles: bytes worked out by hand and by the table of fields, outputs
-//! that are too short, exact and longer, every two sets of a few groups, and the
-//! refusals with the order in which they are tried.
+//! Joining bundles, and looking before: bytes worked out by hand and by the table
+//! of fields, outputs that are too short, exact and longer, every two sets of a few
+//! groups, and the refusals with the order in which they are tried. A look is told
+//! lengths of outputs that are lent, and lengths that no output has.
 
 mod common;
 
 use common::bundles::{bundle, key_fields, of_sizes, Group};
 use common::{Case, BYTE};
-use perk::{join_bundles, read_bundle, read_package, Bundle, Joined, Refusal};
+use perk::{join_bundles, look_before_join, read_bundle, read_package, Bundle, Joined, Refusal};
 use std::slice::from_ref;
 
 /// The package of key A, 56 bytes, of which 19 are fields 01 to 03.
@@ -29,8 +30,20 @@ fn joined(
     (answer, out)
 }
 
+/// A look at the two with each of these rooms tells what is stated.
+fn looks(
+    first: &[u8],
+    second: &[u8],
+    rooms: impl IntoIterator<Item = usize>,
+    stated: Result<Joined, Refusal>,
+) {
+    for room in rooms {
+        assert_eq!(look_before_join(first, second, room), stated, "{room}");
+    }
+}
+
 /// Exactly these bytes are written to an output as long as they are, or longer; an
-/// output that is shorter is refused and keeps its content.
+/// output that is shorter is refused and keeps its content. A look tells both.
 fn writes(first: &[u8], second: &[u8], bundle: &[u8], groups: usize) {
     let exact = bundle.len();
     let stated = Joined {
@@ -51,7 +64,11 @@ fn writes(first: &[u8], second: &[u8], bundle: &[u8], groups: usize) {
         }
     }
     // the sum of both lengths is enough
-    assert!(exact < first.len() + second.len());
+    let sum = first.len() + second.len();
+    assert!(exact < sum);
+    let enough = [exact, exact + 1, sum, usize::MAX];
+    looks(first, second, enough, Ok(stated));
+    looks(first, second, [0, 19, exact - 1], Err(Refusal::ShortOutput));
 }
 
 /// The two bundles of a key are joined to these groups, whichever is first.
@@ -69,8 +86,14 @@ fn joins(key: &Case, first: &[Group], second: &[Group], groups: &[Group]) {
 }
 
 /// The two are refused with this number, and an output of this length keeps its
-/// content.
+/// content. A look tells that number: for this room, and one other than 13 for the
+/// largest too.
 fn refused(first: &[u8], second: &[u8], length: usize, number: u32) {
+    let largest = if number == 13 { length } else { usize::MAX };
+    for room in [length, largest] {
+        let told = look_before_join(first, second, room);
+        assert_eq!(told.map_err(Refusal::number), Err(number), "{room}");
+    }
     for fill in [BYTE, !BYTE] {
         let (answer, out) = joined(first, second, length, fill);
         assert_eq!(answer.map_err(Refusal::number), Err(number));
@@ -133,6 +156,35 @@ fn every_length_of_the_output() {
             assert_eq!(out[..130], stated);
             assert_eq!(out[130..], vec![BYTE; length - 130]);
         }
+    }
+}
+
+// A look at the same two: every room up to 300, and rooms on both sides of each power
+// of two, of which those from 2^63 on are longer than any slice.
+#[test]
+fn every_room() {
+    let (first, second) = (bundle_of(&[7, 9]), bundle_of(&[8, 9]));
+    let powers = (0..usize::BITS).flat_map(|bit| [(1 << bit) - 1, 1 << bit, (1 << bit) + 1]);
+    let rooms = (0..300).chain(powers).chain([usize::MAX - 1, usize::MAX]);
+    let (enough, short): (Vec<usize>, Vec<usize>) = rooms.partition(|room| *room >= 130);
+    let joined = Joined {
+        length: 130,
+        groups: 3,
+    };
+    looks(&first, &second, enough.clone(), Ok(joined));
+    looks(&first, &second, short.clone(), Err(Refusal::ShortOutput));
+    // a refusal other than 13 is the same for every room
+    let mut differs = of_key_a(&[8, 9]);
+    differs[1].t[0] ^= 1;
+    let differs = bundle(&Case::key_a(), &differs);
+    let other_key = bundle(&Case::key_a_with_target(), &of_key_a(&[8, 9]));
+    for (second, refusal) in [
+        (&differs[..], Refusal::GroupsDiffer),
+        (&other_key, Refusal::OtherKey),
+        (&second[..92], Refusal::BytesMissing),
+    ] {
+        let rooms = enough.iter().chain(&short).copied();
+        looks(&first, second, rooms, Err(refusal));
     }
 }
 

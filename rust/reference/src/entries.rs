@@ -246,18 +246,36 @@ fn joined(first: Bundle, second: Bundle) -> Result<Bundle, Refusal> {
     Ok(Bundle { groups, ..first })
 }
 
-/// The entry join bundles: "The join answers the length and the number of groups;
-/// output bytes beyond that length stay." "The first bundle's refusal comes before
-/// the second's. 13 applies last, to the joined length."
-pub fn join_bundles(first: &[u8], second: &[u8], out: &mut [u8]) -> Result<Joined, Refusal> {
+/// What the join writes to an output of this length, and what it answers: "The
+/// first bundle's refusal comes before the second's. 13 applies last, to the joined
+/// length."
+fn joined_within(first: &[u8], second: &[u8], room: usize) -> Result<(Vec<u8>, Joined), Refusal> {
     let read = |bytes| Bundle::judged(bytes).map_err(|refused| refused.refusal);
     let bundle = joined(read(first)?, read(second)?)?;
 
     let bytes = bundle.bytes();
-    let room = out.get_mut(..bytes.len()).ok_or(Refusal::ShortOutput)?;
-    room.copy_from_slice(&bytes);
-    Ok(Joined {
+    if bytes.len() > room {
+        return Err(Refusal::ShortOutput);
+    }
+    let answer = Joined {
         length: bytes.len(),
         groups: bundle.groups.len(),
-    })
+    };
+    Ok((bytes, answer))
+}
+
+/// The entry join bundles: "The join answers the length and the number of groups;
+/// output bytes beyond that length stay."
+pub fn join_bundles(first: &[u8], second: &[u8], out: &mut [u8]) -> Result<Joined, Refusal> {
+    let (bytes, answer) = joined_within(first, second, out.len())?;
+    out[..bytes.len()].copy_from_slice(&bytes);
+    Ok(answer)
+}
+
+/// The entry look before join: "the joined length and the number of groups, or the
+/// refusal, given the length it means to lend. The answer is the one that the join
+/// itself would give on copies, with the same order of refusals, and nothing is
+/// written."
+pub fn look_before_join(first: &[u8], second: &[u8], room: usize) -> Result<Joined, Refusal> {
+    joined_within(first, second, room).map(|(_, answer)| answer)
 }

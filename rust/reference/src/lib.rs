@@ -10,7 +10,8 @@
 //! sums as they are written, readers that cut the bytes into fields first and
 //! judge the fields afterwards, a join of bundles that sorts the groups of both,
 //! and writers that join all fields first and look at the room for them
-//! afterwards. Nothing here is meant to be quick or to run in constant time.
+//! afterwards; the look before the join makes the joined bundle too, and counts its
+//! bytes. Nothing here is meant to be quick or to run in constant time.
 //!
 //! - [`level`]: what the two levels fix of the fields;
 //! - [`small_field`] and [`large_field`]: the fields F and K of a level;
@@ -48,7 +49,8 @@ pub mod small_field;
 pub mod vectors;
 
 pub use entries::{
-    constraints, join_bundles, product, prove, rank, sum, values, verify, write_package, Verdict,
+    constraints, join_bundles, look_before_join, product, prove, rank, sum, values, verify,
+    write_package, Verdict,
 };
 pub use key::Key;
 pub use package::{

@@ -139,7 +139,7 @@ returns-4 c =
     let z = sized m e in
     let n = start-one d in
     let size : length (d .args .first .now) - c .before .before .before .before .before .before .both .given .0 .0 .length + (length (d .args .second .now) - d .args .one .start) ≡ length (written (joinedBundle (levelAt FIRST) (d .args .first .now) (d .args .second .now))) = omega (arith, n, z .bytes) in
-    ap (λ i. plan.Fits (record { start = i; length = length (d .args .first .now) - c .before .before .before .before .before .before .both .given .0 .0 .length + (length (d .args .second .now) - d .args .one .start); groups = d .args .one .number - c .before .before .before .before .before .before .both .given .0 .0 .number + d .args .two .number })) n
+    ap (λ i. plan.Fits (record { start = i; size = record { length = length (d .args .first .now) - c .before .before .before .before .before .before .both .given .0 .0 .length + (length (d .args .second .now) - d .args .one .start); groups = d .args .one .number - c .before .before .before .before .before .before .both .given .0 .0 .number + d .args .two .number } })) n
     ∙ by-fit (d .args .first .now) (d .args .second .now) (d .args .room) (d .pre .0 .0) (d .pre .0 .1) (alike (m .before)) (shared m e .agree) (omega (arith, c .before .before .before .if2 .left, size)) size (omega (arith, number-one d, number-two d, z .groups))
 
 pub compare-spec : {M : Type 1} → statement M

@@ -9,7 +9,6 @@ use Rattle.lists.proofs.Words.{put-length, part-length}
 use Rattle.copying.specs.Words.{Bytes}
 use Rattle.refusal.specs.Answer.{firstOf}
 use Rattle.refusal.specs.declared.Answer.the-variants as answer
-use Rattle.joining.specs.declared.Joined.the-variants as joined
 use Rattle.field.specs.Level.{FIRST, levelAt}
 use Rattle.layout.specs.Layout.{keyEnd}
 use Rattle.bundle.specs.Bundle.{groupsOf}
@@ -17,7 +16,6 @@ use Rattle.bundle.specs.Written.{written}
 use Rattle.bundle.proofs.Faithful.{key-within}
 use Rattle.joining.specs.declared.Plan.{Plan}
 use Rattle.joining.specs.declared.Planned.the-variants.{Fits}
-use Rattle.joining.specs.declared.Size.{Size}
 use Rattle.joining.specs.Union.{union}
 use Rattle.joining.specs.Entry.{joinedBundle, joinRows}
 use Rattle.joining.specs.Steps.{Mates, groupsBytes}
@@ -35,7 +33,7 @@ bytes-two c i = omega (arith, c .before .before .shared-slice-known2 .given i)
 -- no row applies, and the plan is that of the joined bundle
 fits : (c : tie.After-look) {p : Plan} → c .look .result ≡ Fits p → let a = c .before .before .before .before .args in
     (firstOf (joinRows (levelAt FIRST) (a .first .now) (a .second .now) (length (a .out .now))) ≡ answer.Done)
-    × (p ≡ record { start = keyEnd (levelAt FIRST) (a .first .now); length = length (written (joinedBundle (levelAt FIRST) (a .first .now) (a .second .now))); groups = length (joinedBundle (levelAt FIRST) (a .first .now) (a .second .now) .groups) })
+    × (p ≡ record { start = keyEnd (levelAt FIRST) (a .first .now); size = record { length = length (written (joinedBundle (levelAt FIRST) (a .first .now) (a .second .now))); groups = length (joinedBundle (levelAt FIRST) (a .first .now) (a .second .now) .groups) } })
 fits c e =
     let a = c .before .before .before .before .args in
     plan-fits (a .first .now) (a .second .now) (firstOf (joinRows (levelAt FIRST) (a .first .now) (a .second .now) (length (a .out .now)))) (sym (c .look .ensures) ∙ e)
@@ -110,7 +108,7 @@ ends c =
 
 same-length : tie.Need-same-length
 same-length c =
-    let d = c .before .before in
+    let d = c .before .before .before in
     let g = d .before .before .before .before .before .before .before .before .before in
     let a = g .before .before .before .before .args in
     let bytes = written (joinedBundle (levelAt FIRST) (a .first .now) (a .second .now)) in
@@ -119,11 +117,11 @@ same-length c =
 
 returns-2 : tie.Need-returns-2
 returns-2 c =
-    let d = c .before .before in
+    let d = c .before .before .before in
     let g = d .before .before .before .before .before .before .before .before .before in
     let e = d .before .before .before .before .before .before .before .plan .given .1 in
     let a = g .before .before .before .before .args in
-    let size = ap {B = Size} (λ (z : Plan). record { length = z .length; groups = z .groups }) (fits g e .1) in (
+    let size = ap (λ (z : Plan). z .size) (fits g e .1) in (
       outcome-done (a .first .now) (a .second .now) (a .out .now) (fits g e .0) size (ends d),
       λ z f. read-back (a .first .now) (a .second .now) (bytes-one g) (bytes-two g) (matched g e) (a .out .now) (sym (size-same f) ∙ size) (ends d),
     )

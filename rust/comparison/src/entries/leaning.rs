@@ -100,7 +100,7 @@ pub fn each_row<E: Keyed>() -> Group {
 
 /// Rows that lean but for one bit: no refusal of the rows applies. What an entry
 /// answers then is left to the other side.
-fn nearly<E: Keyed>() -> Group {
+pub fn nearly<E: Keyed>() -> Group {
     Group::new(
         "each row of H leans on others but for one bit",
         |generator, each| {

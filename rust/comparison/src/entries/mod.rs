@@ -35,8 +35,9 @@ pub mod write;
 
 /// All entries, in the order of the specification, then rank, write package, those
 /// of bundles, the check of perkcheck, demand 3, completeness, and packages and
-/// bundles that are read back.
-pub const ALL: &[Entry] = &[
+/// bundles that are read back. A static is compiled with this crate alone, a
+/// constant with each that uses it.
+pub static ALL: &[Entry] = &[
     field::SUM,
     field::PRODUCT,
     constraints::CONSTRAINTS,
@@ -50,12 +51,15 @@ pub const ALL: &[Entry] = &[
     write::WRITE,
     bundles::read::READ_BUNDLE,
     bundles::join::JOIN_BUNDLES,
+    bundles::look::LOOK_BEFORE_JOIN,
     check::CHECK,
     demand_3::BOTH_FACTS,
     completeness::COMPLETENESS,
     read_back::READ_BACK,
     bundles::package::PACKAGE_AS_BUNDLE,
     bundles::refused::REFUSED_BUNDLES,
+    bundles::look::LOOK_AT_REFUSED,
+    bundles::look::LENT_AS_TOLD,
     bundles::read_back::READ_BACK,
 ];
 

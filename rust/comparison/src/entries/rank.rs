@@ -417,7 +417,8 @@ const ALL_OF: [(usize, usize, &[u16]); 5] = [
     (4, 3, &[0, 1]),
 ];
 
-const SMALL: Group = Group::new("all small matrices of some words", |generator, each| {
+/// All small matrices of some words.
+pub const SMALL: Group = Group::new("all small matrices of some words", |generator, each| {
     for (n, m, words) in ALL_OF {
         for list in keyed::all_lists(m * n, words.len() as u8) {
             let h: Vec<u16> = list
@@ -453,7 +454,8 @@ fn rounds(count: usize, generator: &mut Generator, each: &mut dyn FnMut(Case)) {
     }
 }
 
-const LARGEST: Group = Group::new("n = 64, m = 1, 27 and 63", |generator, each| {
+/// Rounds at the largest n.
+pub const LARGEST: Group = Group::new("n = 64, m = 1, 27 and 63", |generator, each| {
     rounds(ROUNDS, generator, each);
 });
 

@@ -88,18 +88,27 @@ pub fn groups<E: InRounds>() -> Vec<Group> {
 /// Many rounds at the largest size, with few, some and most rows.
 pub const fn at_largest<E: InRounds>() -> Group {
     Group::new(NAMES[2], |generator, each| {
-        for m in MANY_M {
-            for number in 0..MANY {
-                let sizes = keyed::sizes(LARGEST, m);
-                let round = Round {
-                    sizes,
-                    ..round(LARGEST, number)
-                };
-                E::in_round(&round, generator, each);
-            }
-        }
+        rounds_at_largest::<E>(MANY, generator, each);
     })
     .by_packed()
+}
+
+/// So many rounds at the largest size, for each of some m.
+pub fn rounds_at_largest<E: InRounds>(
+    count: usize,
+    generator: &mut Generator,
+    each: &mut dyn FnMut(Case),
+) {
+    for m in MANY_M {
+        for number in 0..count {
+            let sizes = keyed::sizes(LARGEST, m);
+            let round = Round {
+                sizes,
+                ..round(LARGEST, number)
+            };
+            E::in_round(&round, generator, each);
+        }
+    }
 }
 
 /// The done calls that each of these groups must have.

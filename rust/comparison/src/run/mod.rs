@@ -76,6 +76,18 @@ struct Progress<'a> {
     packages: Packages,
 }
 
+impl Progress<'_> {
+    /// The beginning of an entry in a run.
+    fn new<'a>(run: &Run, entry: &'a Entry) -> Progress<'a> {
+        Progress {
+            entry,
+            spoil: run.spoil,
+            cells: Cells::new(),
+            packages: Packages::new(generator_of(run.seed, entry.name, again::NAME)),
+        }
+    }
+}
+
 impl Run {
     /// A run with this seed. When `spoil` is N, word N of one expected output
     /// of each entry is altered, or one expected answer of an entry without
@@ -239,12 +251,7 @@ impl Run {
         let refusals = entry.refusals.iter().map(|refusal| refusal.number());
         let all = entry.done.iter().copied().chain(refusals);
         let mut total: Tally = all.map(|answer| (answer, 0)).collect();
-        let mut progress = Progress {
-            entry,
-            spoil: self.spoil,
-            cells: Cells::new(),
-            packages: Packages::new(generator_of(self.seed, entry.name, again::NAME)),
-        };
+        let mut progress = Progress::new(self, entry);
         let groups = (entry.groups)();
         for group in &groups {
             for (answer, count) in self.group(&mut progress, group) {
@@ -277,6 +284,18 @@ impl Run {
             let (text, faults) = progress.packages.summary(entry);
             self.report(&text, &faults);
         }
+    }
+
+    /// Whether a group finds a difference of an entry: the cases after the first
+    /// that differs are not compared.
+    pub fn finds(&mut self, entry: &Entry, group: &Group) -> bool {
+        let mut progress = Progress::new(self, entry);
+        let mut found = false;
+        let mut generator = generator_of(self.seed, entry.name, group.name);
+        (group.cases)(&mut generator, &mut |case| {
+            found = found || self.compare(&mut progress, group, &case).1.is_some();
+        });
+        found
     }
 
     /// How many words were altered, how many of them were found, and how many

@@ -1,17 +1,19 @@
-//! The entries read bundle and join bundles: the file of bundles, and the
-//! packages that check files begin with, as bundles of one group.
+//! The entries read bundle, join bundles and look before join: the file of bundles,
+//! and the packages that check files begin with, as bundles of one group.
 
 use super::calls::{Comparison, Stated};
 use super::list::List;
 use super::text::{Form, Lines};
 use crate::case::Taken;
 use crate::entries::bundles::join::{self, FIRST, SECOND};
+use crate::entries::bundles::look::{self, ROOM};
 use crate::entries::bundles::{read, GROUPS};
 use crate::entries::files::fields::HEAD;
 use crate::entries::files::BYTES;
 use crate::entries::package_field::LENGTH;
 use crate::entries::readers::{M, N};
 use crate::entries::write::OUT;
+use crate::lent::Lent;
 use crate::named::Named;
 
 /// The name of the file.
@@ -20,6 +22,7 @@ pub const NAME: &str = "bundle.txt";
 /// The names of the entries.
 const READ: &str = "read bundle";
 const JOIN: &str = "join bundles";
+const LOOK: &str = "look before join";
 
 /// The bytes by which the output of a call is longer than the joined bundle.
 const REST: usize = 9;
@@ -40,7 +43,8 @@ struct Refused {
 }
 
 /// A part of the file with two bundles and what they are together.
-struct Joined {
+struct Joined<'a> {
+    name: &'a str,
     lent: [List; 2],
     groups: List,
     length: List,
@@ -50,10 +54,27 @@ struct Joined {
 }
 
 /// A part of the file with a join that is refused.
-struct JoinRefused {
+struct JoinRefused<'a> {
+    name: &'a str,
     lent: [List; 2],
     /// The length of the output that is lent.
     out: usize,
+    answer: List,
+}
+
+/// A part of the file with looks at the bundles of a join.
+struct Look {
+    rooms: List,
+    length: List,
+    groups: List,
+    short_rooms: List,
+    /// The answer where the room is too short.
+    short: List,
+}
+
+/// A part of the file with looks at the bundles of a join that is refused.
+struct LookRefused {
+    rooms: List,
     answer: List,
 }
 
@@ -89,14 +110,15 @@ impl Refused {
     }
 }
 
-impl Joined {
+impl<'a> Joined<'a> {
     /// The next part.
-    fn read(lines: &mut Lines) -> Result<Joined, String> {
-        lines.part("join")?;
+    fn read(lines: &mut Lines<'a>) -> Result<Joined<'a>, String> {
+        let name = lines.part("join")?;
         let lent = lent(lines)?;
         let groups = lines.single("groups", 1, Form::Decimal)?;
         let (length, bytes) = lines.slice("joined_length", "joined")?;
         Ok(Joined {
+            name,
             lent,
             groups,
             length,
@@ -106,11 +128,11 @@ impl Joined {
     }
 }
 
-impl JoinRefused {
+impl<'a> JoinRefused<'a> {
     /// The next part.
-    fn read(lines: &mut Lines) -> Result<JoinRefused, String> {
-        lines.part("join_refused")?;
+    fn read(lines: &mut Lines<'a>) -> Result<JoinRefused<'a>, String> {
         Ok(JoinRefused {
+            name: lines.part("join_refused")?,
             lent: lent(lines)?,
             out: lines.number("out_length")?,
             answer: lines.single("answer", 1, Form::Decimal)?,
@@ -118,11 +140,36 @@ impl JoinRefused {
     }
 }
 
+impl Look {
+    /// The next part, which is that of a join.
+    fn read(lines: &mut Lines, join: &Joined) -> Result<Look, String> {
+        lines.part_named("look", join.name)?;
+        Ok(Look {
+            rooms: lines.sizes("room")?,
+            length: lines.single("length", 1, Form::Decimal)?,
+            groups: lines.single("groups", 1, Form::Decimal)?,
+            short_rooms: lines.sizes("short_room")?,
+            short: lines.single("short_answer", 1, Form::Decimal)?,
+        })
+    }
+}
+
+impl LookRefused {
+    /// The next part, which is that of a refused join.
+    fn read(lines: &mut Lines, join: &JoinRefused) -> Result<LookRefused, String> {
+        lines.part_named("look_refused", join.name)?;
+        Ok(LookRefused {
+            rooms: lines.sizes("room")?,
+            answer: lines.single("answer", 1, Form::Decimal)?,
+        })
+    }
+}
+
 /// All parts of one kind, at least one, up to a line with another name.
-fn parts<T>(
-    lines: &mut Lines,
+fn parts<'a, T>(
+    lines: &mut Lines<'a>,
     kind: &str,
-    read: fn(&mut Lines) -> Result<T, String>,
+    read: fn(&mut Lines<'a>) -> Result<T, String>,
 ) -> Result<Vec<T>, String> {
     let mut list = Vec::new();
     while list.is_empty() || lines.next_name() == Some(kind) {
@@ -143,20 +190,38 @@ impl Comparison<'_> {
         Ok(())
     }
 
+    /// Two bundles, lent.
+    fn lent(&mut self, lent: [&List; 2]) -> Named<Lent> {
+        let [first, second] = lent.map(|list| self.bytes(list));
+        Named::from([(FIRST, first), (SECOND, second)])
+    }
+
     /// The entry join bundles, with an output of this length.
     fn join(&mut self, lent: [&List; 2], out: usize, stated: Stated) -> Result<(), String> {
-        let [first, second] = lent.map(|list| self.bytes(list));
         let taken = Taken {
             numbers: Named::new(),
-            inputs: Named::from([(FIRST, first), (SECOND, second)]),
+            inputs: self.lent(lent),
         };
         let outputs = join::outputs(out, self.generator);
         self.call(JOIN, taken, outputs, stated)?;
         Ok(())
     }
 
+    /// The entry look before join, for outputs of these lengths.
+    fn look(&mut self, lent: [&List; 2], rooms: &[usize], stated: &Stated) -> Result<(), String> {
+        for &room in rooms {
+            let taken = Taken {
+                numbers: Named::from([(ROOM, room)]),
+                inputs: self.lent(lent),
+            };
+            let outputs = look::outputs(self.generator);
+            self.call(LOOK, taken, outputs, stated.clone())?;
+        }
+        Ok(())
+    }
+
     /// The joined bundle of the two in both orders, in outputs of its length
-    /// and of more.
+    /// and of more; the look tells the same numbers.
     fn joined(
         &mut self,
         [first, second]: [&List; 2],
@@ -168,7 +233,8 @@ impl Comparison<'_> {
             self.join([first, second], out, stated.clone())?;
             self.join([second, first], out, stated.clone())?;
         }
-        Ok(())
+        let stated = Stated::outputs([(LENGTH, length), (GROUPS, groups)]);
+        self.look([first, second], &[bytes.len(), usize::MAX], &stated)
     }
 
     /// A bundle: it is read, and with itself it is itself.
@@ -196,6 +262,7 @@ impl Comparison<'_> {
             length,
             bytes,
             short,
+            ..
         } = part;
         let lent = lent.each_ref();
         self.joined(lent, [bytes, length, groups])?;
@@ -209,8 +276,21 @@ impl Comparison<'_> {
         self.read_bundle(bytes, stated)
     }
 
+    /// Looks at two bundles in both orders, for rooms that are long enough and for
+    /// such that are too short.
+    fn look_part(&mut self, [first, second]: [&List; 2], part: &Look) -> Result<(), String> {
+        let told = Stated::outputs([(LENGTH, &part.length), (GROUPS, &part.groups)]);
+        let short = Stated::answer(&part.short);
+        for lent in [[first, second], [second, first]] {
+            self.look(lent, &part.rooms.sizes(), &told)?;
+            self.look(lent, &part.short_rooms.sizes(), &short)?;
+        }
+        Ok(())
+    }
+
     /// The file of bundles: parts with a bundle, with bytes that are refused,
-    /// with two bundles, and with a join that is refused.
+    /// with two bundles, and with a join that is refused; then looks, for each
+    /// join and for each refused one.
     pub fn bundles(&mut self, content: &[u8]) -> Result<(), String> {
         let content = std::str::from_utf8(content).map_err(|error| error.to_string())?;
         let lines = &mut Lines::new(content)?;
@@ -218,6 +298,12 @@ impl Comparison<'_> {
         let refused = parts(lines, "refused", Refused::read)?;
         let joined = parts(lines, "join", Joined::read)?;
         let join_refused = parts(lines, "join_refused", JoinRefused::read)?;
+        let looks = joined.iter().map(|join| Look::read(lines, join));
+        let looks = looks.collect::<Result<Vec<Look>, String>>()?;
+        let refused_looks = join_refused
+            .iter()
+            .map(|join| LookRefused::read(lines, join));
+        let refused_looks = refused_looks.collect::<Result<Vec<LookRefused>, String>>()?;
         lines.end()?;
         for part in bundles {
             let numbers = [&part.n, &part.m, &part.groups, &part.length];
@@ -226,12 +312,14 @@ impl Comparison<'_> {
         for part in refused {
             self.read_bundle(&part.bytes, Stated::answer(&part.answer))?;
         }
-        for part in joined {
-            self.join_part(&part)?;
+        for (part, look) in joined.iter().zip(&looks) {
+            self.join_part(part)?;
+            self.look_part(part.lent.each_ref(), look)?;
         }
-        for part in join_refused {
-            let answer = Stated::answer(&part.answer);
-            self.join(part.lent.each_ref(), part.out, answer)?;
+        for (part, look) in join_refused.iter().zip(&refused_looks) {
+            let lent = part.lent.each_ref();
+            self.join(lent, part.out, Stated::answer(&part.answer))?;
+            self.look(lent, &look.rooms.sizes(), &Stated::answer(&look.answer))?;
         }
         Ok(())
     }

@@ -92,6 +92,11 @@ impl List {
         self.words[index].value as usize
     }
 
+    /// The words as sizes.
+    pub fn sizes(&self) -> Vec<usize> {
+        self.words.iter().map(|word| word.value as usize).collect()
+    }
+
     /// A part of the list.
     pub fn part(&self, start: usize, len: usize) -> List {
         List {

@@ -160,6 +160,8 @@ impl Text {
 pub enum Form {
     /// A decimal number up to the largest of 32 bits.
     Decimal,
+    /// A decimal number up to the largest of 64 bits.
+    Size,
     /// A decimal number up to 255.
     Small,
     /// An element of F.
@@ -173,6 +175,7 @@ impl Form {
     fn words(self, text: &str) -> Option<Vec<u64>> {
         let count = match self {
             Form::Decimal => return decimal::<u32>(text).map(|number| vec![number.into()]),
+            Form::Size => return decimal::<u64>(text).map(|number| vec![number]),
             Form::Small => return decimal::<u8>(text).map(|number| vec![number.into()]),
             Form::F => 1,
             Form::K => COORDINATES,
@@ -265,11 +268,33 @@ impl<'a> Lines<'a> {
     }
 
     /// The name of a part, which is one word.
-    pub fn part(&mut self, kind: &'static str) -> Result<(), String> {
+    pub fn part(&mut self, kind: &'static str) -> Result<&'a str, String> {
         let (line, values) = self.next(kind)?;
         match values[..] {
-            [_] => Ok(()),
+            [name] => Ok(name),
             _ => error(line, format!("{kind} has no name of one word")),
+        }
+    }
+
+    /// A part with this name.
+    pub fn part_named(&mut self, kind: &'static str, name: &str) -> Result<(), String> {
+        match self.part(kind)? {
+            found if found == name => Ok(()),
+            found => error(self.read, format!("{name} expected, {found} found")),
+        }
+    }
+
+    /// Sizes that rise, on one line or more.
+    pub fn sizes(&mut self, name: &'static str) -> Result<List, String> {
+        let words = Vec::new();
+        let mut list = List { name, words };
+        while list.is_empty() || self.next_name() == Some(name) {
+            let (line, values) = self.next(name)?;
+            Lines::add(&mut list, line, &values, 1, Form::Size)?;
+        }
+        match list.words.is_sorted_by(|one, next| one.value < next.value) {
+            true => Ok(list),
+            false => error(self.read, format!("{name} does not rise")),
         }
     }
 

@@ -2,36 +2,32 @@
 //! columns for spare codes, and that decide in another order. Each stands in the
 //! place of the library.
 
-use crate::common::{passes, with_library};
-use comparison::case::{Call, Entry, Group, Taken};
+use crate::common::finds;
+use comparison::case::{Call, Group, Taken};
 use comparison::entries::codes::{ONE_SPARE, ONE_TOO_LARGE, TAKEN};
 use comparison::entries::constraints::CONSTRAINTS;
-use comparison::entries::keyed::{self, Keyed};
-use comparison::entries::prove::{Prove, PROVE};
+use comparison::entries::prove::PROVE;
 use comparison::slices::{N, POSITIONS};
-use reference::Refusal;
 
-/// Calls that no refusal applies to, as a run has to have some.
-const DONE: Group = Group::new("done", |generator, each| {
-    for _ in 0..2_000 {
-        each(Prove::right(keyed::sizes(2, 1), generator));
-    }
-});
-
-/// Whether prove passes with this function in the place of the library.
-fn prove_passes(library: Call) -> bool {
-    let groups = || vec![ONE_SPARE, ONE_TOO_LARGE, DONE];
-    let entry = Entry {
-        refusals: &[Refusal::Position, Refusal::SpareCode],
-        ..with_library(PROVE, library, groups)
-    };
-    passes(&entry, None)
+/// Whether spare codes find this function in the place of the library's prove.
+fn spare_codes_find(library: Call) -> bool {
+    finds(ONE_SPARE, PROVE, library)
 }
 
-/// Whether constraints passes with this function in the place of the library.
-fn constraints_passes(library: Call) -> bool {
-    let groups = || TAKEN[..1].to_vec();
-    passes(&with_library(CONSTRAINTS, library, groups), None)
+/// Whether positions that are too large do.
+fn too_large_find(library: Call) -> bool {
+    finds(ONE_TOO_LARGE, PROVE, library)
+}
+
+/// One in four of the spare codes that constraints takes.
+const SOME_TAKEN: Group = TAKEN[0].with_cases(|generator, each| {
+    TAKEN[0].one_in(4, generator, each);
+});
+
+/// Whether spare codes find this function in the place of the library's
+/// constraints.
+fn taken_codes_find(library: Call) -> bool {
+    finds(SOME_TAKEN, CONSTRAINTS, library)
 }
 
 /// The positions of a call that are n or more, and n.
@@ -43,13 +39,16 @@ fn no_columns(taken: &Taken) -> (Vec<usize>, usize) {
 
 #[test]
 fn no_fault() {
-    assert!(prove_passes(PROVE.reference));
-    assert!(constraints_passes(CONSTRAINTS.reference));
+    assert!(!spare_codes_find(PROVE.reference));
+    assert!(!too_large_find(PROVE.reference));
+    assert!(!taken_codes_find(
+        CONSTRAINTS.packed.expect("an entry of packed")
+    ));
 }
 
 #[test]
 fn n_taken_for_a_column() {
-    assert!(!prove_passes(|taken, outputs| {
+    assert!(spare_codes_find(|taken, outputs| {
         let (others, n) = no_columns(taken);
         match (PROVE.reference)(taken, outputs) {
             16 if others.iter().all(|&position| position == n) => 8,
@@ -60,7 +59,7 @@ fn n_taken_for_a_column() {
 
 #[test]
 fn a_spare_code_in_the_last_place_not_seen() {
-    assert!(!prove_passes(|taken, outputs| {
+    assert!(spare_codes_find(|taken, outputs| {
         let (others, n) = no_columns(taken);
         let last = usize::from(taken.bytes(POSITIONS)[n - 1]);
         match (PROVE.reference)(taken, outputs) {
@@ -72,7 +71,7 @@ fn a_spare_code_in_the_last_place_not_seen() {
 
 #[test]
 fn a_spare_code_before_one_too_large() {
-    assert!(!prove_passes(|taken, outputs| {
+    assert!(too_large_find(|taken, outputs| {
         let (others, _) = no_columns(taken);
         match (PROVE.reference)(taken, outputs) {
             7 if others[0] < others[others.len() - 1] => 16,
@@ -83,7 +82,7 @@ fn a_spare_code_before_one_too_large() {
 
 #[test]
 fn the_top_before_a_spare_code() {
-    assert!(!prove_passes(|taken, outputs| {
+    assert!(spare_codes_find(|taken, outputs| {
         match (PROVE.reference)(taken, outputs) {
             16 => 8,
             answer => answer,
@@ -93,7 +92,7 @@ fn the_top_before_a_spare_code() {
 
 #[test]
 fn constraints_refuses_spare_codes() {
-    assert!(!constraints_passes(|taken, outputs| {
+    assert!(taken_codes_find(|taken, outputs| {
         match no_columns(taken).0.is_empty() {
             true => (CONSTRAINTS.reference)(taken, outputs),
             false => 16,

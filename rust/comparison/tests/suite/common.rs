@@ -70,26 +70,13 @@ pub fn passes(entry: &Entry, spoil: Option<usize>) -> bool {
     run.finish()
 }
 
-/// A public entry with another function in the place of the library, in these
-/// groups alone.
-pub fn with_library(entry: Entry, library: Call, groups: fn() -> Vec<Group>) -> Entry {
-    Entry {
-        refusals: &[],
-        table: None,
-        least: Vec::new,
+/// Whether a group finds this function in the place of the library of an entry: a
+/// case of it differs.
+pub fn finds(group: Group, entry: Entry, library: Call) -> bool {
+    let entry = Entry {
         library,
-        groups,
+        table: None,
         ..entry
-    }
-}
-
-/// Hands over one in so many cases of a group.
-pub fn one_in(count: usize, group: &Group, generator: &mut Generator, each: &mut dyn FnMut(Case)) {
-    let mut turn = 0;
-    (group.cases)(generator, &mut |case| {
-        turn += 1;
-        if turn % count == 0 {
-            each(case);
-        }
-    });
+    };
+    Run::new(1, None).finds(&entry, &group)
 }

@@ -1,7 +1,7 @@
 //! The comparison finds each kind of fault: entries with one deliberate fault
 //! are run in the place of the library.
 
-use crate::common::{case, entry, passes, right, ALL, INPUT, OUTPUT};
+use crate::common::{case, entry, finds, passes, right, ALL, INPUT, OUTPUT};
 use comparison::case::{Call, Case, Entry, Expected, Group, Stated, Taken};
 use comparison::lent::Lent;
 use comparison::named::Named;
@@ -49,6 +49,24 @@ fn wrong_answer() {
             answer => answer,
         }
     }));
+}
+
+#[test]
+fn a_group_finds_a_fault() {
+    const ONES: Group = Group::new("ones", |generator, each| {
+        (0..3).for_each(|_| each(case(generator, &[1], 1, 0)));
+    });
+    let copy = entry(right, Vec::new);
+    for group in [ALL, ONES] {
+        assert!(!finds(group, copy, right));
+        assert!(finds(group, copy, |taken, outputs| other_output(
+            taken, outputs, 0
+        )));
+    }
+    // No case of the second has this answer.
+    let changed: Call = |taken, outputs| other_output(taken, outputs, 5);
+    assert!(finds(ALL, copy, changed));
+    assert!(!finds(ONES, copy, changed));
 }
 
 /// Changes the byte at an offset, as a C function could.

@@ -1,9 +1,10 @@
 //! The groups of join bundles, and of joined bundles that are read back, find
 //! wrong joins. Each stands in the place of the library.
 
-use crate::common::{one_in, passes};
-use comparison::case::{Call, Case, Entry, Group, Taken};
-use comparison::entries::bundles::join::{bundles_of, with_room, FIRST, JOIN_BUNDLES};
+use crate::common::finds;
+use crate::joining::{put, Check, Join, JOIN};
+use comparison::case::{Call, Case, Group, Taken};
+use comparison::entries::bundles::join::{bundles_of, FIRST, JOIN_BUNDLES};
 use comparison::entries::bundles::join_groups::{
     DIFFERING, EACH_VALUE, OTHER_KEYS, OTHER_SIZES, OUTPUTS, SERIALS, SHAPES, SMALL_N,
 };
@@ -17,27 +18,7 @@ use comparison::lent::Lent;
 use comparison::named::Named;
 use reference::package::{tag, WrittenField};
 use reference::samples::Generator;
-use reference::Refusal;
 use std::cmp::Ordering;
-
-/// The entry with this function in the place of the library, in these groups,
-/// where these refusals are reached.
-fn joined_by(library: Call, refusals: &'static [Refusal], groups: fn() -> Vec<Group>) -> bool {
-    let entry = Entry {
-        refusals,
-        table: None,
-        library,
-        groups,
-        ..JOIN_BUNDLES
-    };
-    passes(&entry, None)
-}
-
-/// Two bundles that are joined, so that enough calls are done.
-const RIGHT: Group = Group::new("right", |generator, each| {
-    let pair = Pair::any(2, 1, 3, generator);
-    (0..900).for_each(|_| each(with_room(&pair, 1, generator)));
-});
 
 /// Hands over the cases of a group up to this n.
 fn up_to(n: u8, group: &Group, generator: &mut Generator, each: &mut dyn FnMut(Case)) {
@@ -49,76 +30,86 @@ fn up_to(n: u8, group: &Group, generator: &mut Generator, each: &mut dyn FnMut(C
 }
 
 /// Small bundles with parts of themselves and with others.
-const SMALL_SHAPES: Group = Group::new("shapes", |generator, each| {
+pub const SMALL_SHAPES: Group = Group::new("shapes", |generator, each| {
     up_to(4, &SHAPES, generator, each);
 });
 
 /// Small bundles with groups that differ, and with other keys.
-const SMALL_DIFFERING: Group = Group::new("groups that differ", |generator, each| {
+pub const SMALL_DIFFERING: Group = Group::new("groups that differ", |generator, each| {
     up_to(4, &DIFFERING, generator, each);
 });
-const SMALL_KEYS: Group = Group::new("other keys", |generator, each| {
+pub const SMALL_KEYS: Group = Group::new("other keys", |generator, each| {
     up_to(5, &OTHER_KEYS, generator, each);
 });
 
 /// One in nine of the pairs of serials.
 const SOME_SERIALS: Group = Group::new("serials", |generator, each| {
-    one_in(9, &SERIALS, generator, each);
+    SERIALS.one_in(9, generator, each);
 });
 
-/// Whether a join passes where no call is refused.
-fn content_passes(library: Call) -> bool {
-    joined_by(library, &[], || vec![SMALL_SHAPES, SOME_SERIALS])
+/// One in five of the random bundles of small sizes.
+const SOME_SMALL: Group = SMALL_N.with_cases(|generator, each| {
+    SMALL_N.one_in(5, generator, each);
+});
+
+/// Whether small bundles with parts of themselves and with others find this
+/// function in the place of the library.
+fn shapes_find(library: Call) -> bool {
+    finds(SMALL_SHAPES, JOIN_BUNDLES, library)
 }
 
-/// Whether a join passes with groups that differ, other keys and outputs of all
-/// lengths.
-fn refusals_pass(library: Call) -> bool {
-    const REACHED: &[Refusal] = &[
-        Refusal::OtherKey,
-        Refusal::GroupsDiffer,
-        Refusal::ShortOutput,
-    ];
-    joined_by(library, REACHED, || {
-        vec![
-            RIGHT,
-            by_hand::JOIN,
-            SMALL_DIFFERING,
-            EACH_VALUE,
-            SMALL_KEYS,
-            OTHER_SIZES,
-        ]
-    })
+/// Whether pairs of serials do.
+fn serials_find(library: Call) -> bool {
+    finds(SOME_SERIALS, JOIN_BUNDLES, library)
 }
 
-/// The same with outputs of all lengths alone.
-fn output_passes(library: Call) -> bool {
-    joined_by(library, &[Refusal::ShortOutput], || {
-        vec![OUTPUTS, SMALL_SHAPES]
-    })
+/// Whether bundles whose bytes are written out do.
+fn by_hand_finds(library: Call) -> bool {
+    finds(by_hand::JOIN, JOIN_BUNDLES, library)
 }
 
-/// Whether a join passes with bundles that are refused.
-fn refused_pass(library: Call) -> bool {
-    let entry = Entry {
-        table: None,
-        library,
-        groups: || vec![RIGHT, EACH_TWO, BESIDE_OTHERS],
-        ..REFUSED_BUNDLES
-    };
-    passes(&entry, None)
+/// Whether groups that differ do.
+fn differing_find(library: Call) -> bool {
+    finds(SMALL_DIFFERING, JOIN_BUNDLES, library)
 }
 
-/// Whether what this function joins is read back.
-macro_rules! read_back_passes {
+/// Whether groups of which each value is changed do.
+fn each_value_finds(library: Call) -> bool {
+    finds(EACH_VALUE, JOIN_BUNDLES, library)
+}
+
+/// Whether other keys do.
+fn keys_find(library: Call) -> bool {
+    finds(SMALL_KEYS, JOIN_BUNDLES, library)
+}
+
+/// Whether bundles of other sizes do.
+fn sizes_find(library: Call) -> bool {
+    finds(OTHER_SIZES, JOIN_BUNDLES, library)
+}
+
+/// Whether outputs of all lengths do.
+fn outputs_find(library: Call) -> bool {
+    finds(OUTPUTS, JOIN_BUNDLES, library)
+}
+
+/// Whether each two refusals of the bundles do.
+fn each_two_find(library: Call) -> bool {
+    finds(EACH_TWO, REFUSED_BUNDLES, library)
+}
+
+/// Whether each refusal of a bundle beside 21, 22 and 13 does.
+fn beside_finds(library: Call) -> bool {
+    finds(BESIDE_OTHERS, REFUSED_BUNDLES, library)
+}
+
+/// Whether what this function joins is not read back.
+macro_rules! read_back_finds {
     ($join:expr) => {
-        passes(
-            &Entry {
-                library: |taken, outputs| joined_and_read($join, taken, outputs),
-                groups: || vec![read_back::OF_SHAPES],
-                ..read_back::READ_BACK
-            },
-            None,
+        finds(
+            read_back::OF_SHAPES,
+            read_back::READ_BACK,
+            |taken, outputs| joined_and_read($join, taken, outputs),
         )
     };
 }
@@ -126,108 +117,6 @@ macro_rules! read_back_passes {
 /// The answer of the reference, and what it writes.
 fn right(taken: &Taken, outputs: &mut Named<Lent>) -> u32 {
     (JOIN_BUNDLES.reference)(taken, outputs)
-}
-
-/// The refusals of a join, in an order.
-#[derive(Clone, Copy)]
-enum Check {
-    First,
-    Second,
-    Key,
-    Groups,
-    Room,
-}
-
-/// A join, by its parts.
-#[derive(Clone, Copy)]
-struct Join {
-    /// The order in which the refusals are decided.
-    order: [Check; 5],
-    /// Whether two keys are the same.
-    same_key: fn(&[WrittenField], &[WrittenField]) -> bool,
-    /// The order of two groups.
-    order_of: fn(&Fields, &Fields) -> Ordering,
-    /// Whether two groups with one serial are the same.
-    same: fn(&Fields, &Fields) -> bool,
-    /// What becomes of two groups with one serial.
-    kept: fn(&Fields, &Fields) -> Vec<Fields>,
-}
-
-/// The join as it should be.
-const JOIN: Join = Join {
-    order: [
-        Check::First,
-        Check::Second,
-        Check::Key,
-        Check::Groups,
-        Check::Room,
-    ],
-    same_key: |one, other| one == other,
-    order_of: |one, other| serial_of(one).cmp(&serial_of(other)),
-    same: |one, other| one == other,
-    kept: |one, _| vec![one.clone()],
-};
-
-impl Join {
-    /// The groups of both, and whether two with one serial differ.
-    fn merged(&self, first: &[Fields], second: &[Fields]) -> (Vec<Fields>, bool) {
-        let mut merged = Vec::new();
-        let mut differ = false;
-        let (mut one, mut other) = (first.iter().peekable(), second.iter().peekable());
-        loop {
-            let order = match (one.peek(), other.peek()) {
-                (None, None) => return (merged, differ),
-                (Some(_), None) => Ordering::Less,
-                (None, Some(_)) => Ordering::Greater,
-                (Some(one), Some(other)) => (self.order_of)(one, other),
-            };
-            match order {
-                Ordering::Less => merged.extend(one.next().cloned()),
-                Ordering::Greater => merged.extend(other.next().cloned()),
-                Ordering::Equal => {
-                    if let (Some(one), Some(other)) = (one.next(), other.next()) {
-                        differ |= !(self.same)(one, other);
-                        merged.extend((self.kept)(one, other));
-                    }
-                }
-            }
-        }
-    }
-
-    /// The call.
-    fn call(&self, taken: &Taken, outputs: &mut Named<Lent>) -> u32 {
-        let lent = bundles_of(taken);
-        let read = lent.map(|bytes| reference::read_bundle(bytes).err().map(Refusal::number));
-        let [first, second] = lent.map(Bundle::walked);
-        let (groups, differ) = self.merged(&first.groups, &second.groups);
-        let key_differs = !(self.same_key)(&first.key, &second.key);
-        let key = first.key;
-        let joined = Bundle { key, groups };
-        let bytes = joined.bytes();
-        let short = outputs[OUT].len() < bytes.len();
-        let refusal = |check: &Check| match check {
-            Check::First => read[0],
-            Check::Second => read[1],
-            Check::Key => key_differs.then_some(21),
-            Check::Groups => differ.then_some(22),
-            Check::Room => short.then_some(13),
-        };
-        if let Some(answer) = self.order.iter().find_map(refusal) {
-            return answer;
-        }
-        put(&bytes, joined.groups.len(), outputs);
-        0
-    }
-}
-
-/// Writes these bytes and these numbers, as much as there is room for.
-fn put(bytes: &[u8], count: usize, outputs: &mut Named<Lent>) {
-    let [out, length, groups] = outputs.each_mut([OUT, LENGTH, GROUPS]);
-    let room = out.bytes_mut();
-    let len = bytes.len().min(room.len());
-    room[..len].copy_from_slice(&bytes[..len]);
-    *length.size_mut() = bytes.len();
-    *groups.size_mut() = count;
 }
 
 /// A join with other parts.
@@ -242,44 +131,59 @@ macro_rules! join {
 
 #[test]
 fn no_fault() {
-    for passes in [content_passes, refusals_pass, output_passes, refused_pass] {
-        assert!(passes(right));
-        assert!(passes(join!()));
+    for finds in [
+        shapes_find,
+        serials_find,
+        by_hand_finds,
+        differing_find,
+        each_value_finds,
+        keys_find,
+        sizes_find,
+        outputs_find,
+        each_two_find,
+        beside_finds,
+    ] {
+        assert!(!finds(right));
+        assert!(!finds(join!()));
     }
-    assert!(read_back_passes!(right));
+    assert!(!read_back_finds!(right));
 }
 
 #[test]
 fn equal_groups_twice() {
     let twice: Call = join!(kept: |one, other| vec![one.clone(), other.clone()]);
-    assert!(!content_passes(twice));
-    assert!(!read_back_passes!(
+    assert!(shapes_find(twice));
+    assert!(read_back_finds!(
         join!(kept: |one, other| vec![one.clone(), other.clone()])
     ));
     // Neither.
-    assert!(!content_passes(join!(kept: |_, _| Vec::new())));
+    assert!(shapes_find(join!(kept: |_, _| Vec::new())));
 }
 
 #[test]
 fn groups_that_differ_not_looked_for() {
     // Not at all, with the groups of either kept; in field 06 or 07 alone.
-    assert!(!refusals_pass(join!(same: |_, _| true)));
-    assert!(!refusals_pass(join!(
+    assert!(each_value_finds(join!(same: |_, _| true)));
+    assert!(each_value_finds(join!(
         same: |_, _| true,
         kept: |_, other| vec![other.clone()],
     )));
-    assert!(!refusals_pass(join!(same: |one, other| one[1] == other[1])));
-    assert!(!refusals_pass(join!(same: |one, other| one[2] == other[2])));
+    assert!(each_value_finds(
+        join!(same: |one, other| one[1] == other[1])
+    ));
+    assert!(each_value_finds(
+        join!(same: |one, other| one[2] == other[2])
+    ));
     // All but the first or the last byte of a field.
-    assert!(!refusals_pass(join!(same: |one, other| {
+    assert!(each_value_finds(join!(same: |one, other| {
         one[1].content[1..] == other[1].content[1..] && one[2] == other[2]
     })));
-    assert!(!refusals_pass(join!(same: |one, other| {
+    assert!(each_value_finds(join!(same: |one, other| {
         let last = one[2].content.len().min(other[2].content.len()) - 2;
         one[1] == other[1] && one[2].content[..last] == other[2].content[..last]
     })));
     // Their lengths and the lower bytes.
-    assert!(!refusals_pass(join!(same: |one, other| {
+    assert!(each_value_finds(join!(same: |one, other| {
         let lower = |group: &Fields| -> Vec<u8> {
             group[2].content.iter().skip(1).step_by(2).copied().collect()
         };
@@ -290,59 +194,57 @@ fn groups_that_differ_not_looked_for() {
 #[test]
 fn serials_compared_otherwise() {
     // By their bytes, by their last bytes, as numbers with a sign.
-    assert!(!content_passes(
+    assert!(serials_find(
         join!(order_of: |one, other| one[0].content.cmp(&other[0].content))
     ));
-    assert!(!content_passes(join!(order_of: |one, other| {
+    assert!(serials_find(join!(order_of: |one, other| {
         (serial_of(one) as u16).cmp(&(serial_of(other) as u16))
     })));
-    assert!(!content_passes(join!(order_of: |one, other| {
+    assert!(serials_find(join!(order_of: |one, other| {
         (serial_of(one) as i32).cmp(&(serial_of(other) as i32))
     })));
-    assert!(!read_back_passes!(
+    assert!(read_back_finds!(
         join!(order_of: |one, other| one[0].content.cmp(&other[0].content))
     ));
     // The groups of the first before those of the second, and the reverse.
-    assert!(!content_passes(join!(order_of: |one, other| {
+    assert!(serials_find(join!(order_of: |one, other| {
         match one[0] == other[0] {
             true => Ordering::Equal,
             false => Ordering::Less,
         }
     })));
-    assert!(!content_passes(join!(order_of: |_, _| Ordering::Greater)));
+    assert!(serials_find(join!(order_of: |_, _| Ordering::Greater)));
 }
 
 #[test]
 fn refusals_in_another_order() {
     use Check::{First, Groups, Key, Room, Second};
     // The second bundle before the first.
-    assert!(!refused_pass(
+    assert!(each_two_find(
         join!(order: [Second, First, Key, Groups, Room])
     ));
     // 21, 22 and 13 before the second bundle, and before both.
-    assert!(!refused_pass(
+    assert!(beside_finds(
         join!(order: [First, Key, Second, Groups, Room])
     ));
-    assert!(!refused_pass(
+    assert!(beside_finds(
         join!(order: [First, Groups, Second, Key, Room])
     ));
-    assert!(!refused_pass(
+    assert!(beside_finds(
         join!(order: [First, Room, Second, Key, Groups])
     ));
-    assert!(!refused_pass(
+    assert!(each_two_find(
         join!(order: [Key, First, Second, Groups, Room])
     ));
-    assert!(!refused_pass(
+    assert!(each_two_find(
         join!(order: [Room, First, Second, Key, Groups])
     ));
     // 22 before 21, 13 before 22 and before both.
-    assert!(!refusals_pass(
-        join!(order: [First, Second, Groups, Key, Room])
-    ));
-    assert!(!refusals_pass(
+    assert!(sizes_find(join!(order: [First, Second, Groups, Key, Room])));
+    assert!(differing_find(
         join!(order: [First, Second, Key, Room, Groups])
     ));
-    assert!(!refusals_pass(
+    assert!(by_hand_finds(
         join!(order: [First, Second, Room, Key, Groups])
     ));
 }
@@ -350,14 +252,14 @@ fn refusals_in_another_order() {
 #[test]
 fn one_bundle_not_read() {
     use Check::{First, Groups, Key, Room, Second};
-    assert!(!refused_pass(
+    assert!(beside_finds(
         join!(order: [First, First, Key, Groups, Room])
     ));
-    assert!(!refused_pass(
+    assert!(each_two_find(
         join!(order: [Second, Second, Key, Groups, Room])
     ));
     // 20 of the second left out.
-    assert!(!refused_pass(|taken, outputs| {
+    assert!(beside_finds(|taken, outputs| {
         let first = reference::read_bundle(bundles_of(taken)[0]);
         match right(taken, outputs) {
             20 if first.is_ok() => 0,
@@ -374,33 +276,31 @@ fn without(key: &[WrittenField], tag: u8) -> Vec<&WrittenField> {
 #[test]
 fn keys_compared_otherwise() {
     // Not at all, and without one of the fields.
-    assert!(!refusals_pass(join!(same_key: |_, _| true)));
-    assert!(!refusals_pass(join!(same_key: |one, other| {
+    assert!(keys_find(join!(same_key: |_, _| true)));
+    assert!(keys_find(join!(same_key: |one, other| {
         without(one, tag::H) == without(other, tag::H)
     })));
-    assert!(!refusals_pass(join!(same_key: |one, other| {
+    assert!(keys_find(join!(same_key: |one, other| {
         without(one, tag::X) == without(other, tag::X)
     })));
-    assert!(!refusals_pass(join!(same_key: |one, other| {
+    assert!(keys_find(join!(same_key: |one, other| {
         without(one, tag::Y) == without(other, tag::Y)
     })));
     // The sizes alone, y where both have it, as many fields as the first or the
     // second has.
-    assert!(!refusals_pass(
-        join!(same_key: |one, other| one[0] == other[0])
-    ));
-    assert!(!refusals_pass(join!(same_key: |one, other| {
+    assert!(keys_find(join!(same_key: |one, other| one[0] == other[0])));
+    assert!(keys_find(join!(same_key: |one, other| {
         let both = one.len() == other.len();
         one == other || !both && without(one, tag::Y) == without(other, tag::Y)
     })));
-    assert!(!refusals_pass(
+    assert!(keys_find(
         join!(same_key: |one, other| one.starts_with(other))
     ));
-    assert!(!refusals_pass(
+    assert!(keys_find(
         join!(same_key: |one, other| other.starts_with(one))
     ));
     // The lengths of the fields alone.
-    assert!(!refusals_pass(join!(same_key: |one, other| {
+    assert!(keys_find(join!(same_key: |one, other| {
         let lengths = |key: &[WrittenField]| -> Vec<u16> {
             key.iter().map(|field| field.length).collect()
         };
@@ -455,7 +355,7 @@ fn bytes_beyond_the_length_changed() {
             out[*len..end.max(*len)].fill(0);
         }),
     ] {
-        assert!(!output_passes(library));
+        assert!(outputs_find(library));
     }
 }
 
@@ -468,9 +368,9 @@ fn another_number_of_groups() {
         change!(|taken, _, _, groups| *groups = counts(taken)[1]),
         change!(|_, _, length, groups| *groups = *length),
     ] {
-        assert!(!content_passes(library));
+        assert!(shapes_find(library));
     }
-    assert!(!read_back_passes!(change!(|_, _, _, groups| *groups += 1)));
+    assert!(read_back_finds!(change!(|_, _, _, groups| *groups += 1)));
 }
 
 #[test]
@@ -482,11 +382,11 @@ fn another_length() {
         change!(|taken, _, length, _| *length = bundles_of(taken).concat().len()),
         change!(|_, out, length, _| *length = out.len()),
     ] {
-        assert!(!content_passes(library) || !output_passes(library));
+        assert!(shapes_find(library));
     }
-    assert!(!read_back_passes!(change!(|_, _, length, _| *length -= 1)));
+    assert!(read_back_finds!(change!(|_, _, length, _| *length -= 1)));
     // Neither number is written.
-    assert!(!content_passes(|taken, outputs| {
+    assert!(shapes_find(|taken, outputs| {
         let numbers = [LENGTH, GROUPS].map(|name| outputs[name].clone());
         let answer = right(taken, outputs);
         let [length, groups] = numbers;
@@ -521,16 +421,16 @@ macro_rules! other {
 fn other_groups() {
     // The last one, or the first of several, left out; the t of the first in
     // all.
-    assert!(!content_passes(other!(|bundle| {
+    assert!(shapes_find(other!(|bundle| {
         let count = bundle.groups.len();
         bundle.groups.truncate(1.max(count - 1));
     })));
-    assert!(!content_passes(other!(|bundle| {
+    assert!(shapes_find(other!(|bundle| {
         if bundle.groups.len() > 3 {
             bundle.groups.remove(0);
         }
     })));
-    assert!(!content_passes(other!(|bundle| {
+    assert!(shapes_find(other!(|bundle| {
         let t = bundle.groups[0][1].clone();
         bundle
             .groups
@@ -542,10 +442,10 @@ fn other_groups() {
 #[test]
 fn other_fields() {
     // y left out, and a serial of two bytes in four.
-    assert!(!content_passes(other!(|bundle| {
+    assert!(shapes_find(other!(|bundle| {
         bundle.key.retain(|field| field.tag != tag::Y);
     })));
-    assert!(!content_passes(other!(|bundle| {
+    assert!(shapes_find(other!(|bundle| {
         for group in &mut bundle.groups {
             if group[0].length == 2 {
                 let content = [&[0, 0], &group[0].content[..]].concat();
@@ -578,16 +478,16 @@ fn refused_where(
 #[test]
 fn right_outputs_refused() {
     // Longer ones, exact ones, and those that have no room for both bundles.
-    assert!(!output_passes(|taken, outputs| {
+    assert!(outputs_find(|taken, outputs| {
         refused_where(taken, outputs, 3, |[out, len, _]| out > len)
     }));
-    assert!(!output_passes(|taken, outputs| {
+    assert!(outputs_find(|taken, outputs| {
         refused_where(taken, outputs, 13, |[out, len, _]| out == len)
     }));
-    assert!(!output_passes(|taken, outputs| {
+    assert!(outputs_find(|taken, outputs| {
         refused_where(taken, outputs, 13, |[out, _, both]| out < both)
     }));
-    assert!(!output_passes(|taken, outputs| {
+    assert!(outputs_find(|taken, outputs| {
         refused_where(taken, outputs, 13, |[out, len, _]| out > len + 65_000)
     }));
 }
@@ -597,9 +497,9 @@ fn short_outputs_written() {
     use Check::{First, Groups, Key, Second};
     // As much as there is room for.
     let cut: Call = join!(order: [First, Second, Key, Groups, Groups]);
-    assert!(!output_passes(cut));
+    assert!(outputs_find(cut));
     // All but the last byte.
-    assert!(!output_passes(|taken, outputs| {
+    assert!(outputs_find(|taken, outputs| {
         let mut longer = outputs.clone();
         let len = outputs[OUT].len();
         longer[OUT] = Lent::any_bytes(len + 1, &mut Generator::new(1));
@@ -638,25 +538,25 @@ fn copy_first(taken: &Taken, outputs: &mut Named<Lent>) {
 
 #[test]
 fn outputs_changed_on_a_refusal() {
-    assert!(!refusals_pass(|taken, outputs| {
+    assert!(differing_find(|taken, outputs| {
         changed_on(22, taken, outputs, copy_first)
     }));
-    assert!(!refusals_pass(|taken, outputs| {
+    assert!(sizes_find(|taken, outputs| {
         changed_on(21, taken, outputs, copy_first)
     }));
-    assert!(!output_passes(|taken, outputs| {
+    assert!(outputs_find(|taken, outputs| {
         changed_on(13, taken, outputs, copy_first)
     }));
-    assert!(!refused_pass(|taken, outputs| {
+    assert!(each_two_find(|taken, outputs| {
         changed_on(20, taken, outputs, copy_first)
     }));
     // The length that is needed, and the groups.
-    assert!(!output_passes(|taken, outputs| {
+    assert!(outputs_find(|taken, outputs| {
         changed_on(13, taken, outputs, |_, outputs| {
             *outputs[LENGTH].size_mut() = 0;
         })
     }));
-    assert!(!refusals_pass(|taken, outputs| {
+    assert!(differing_find(|taken, outputs| {
         changed_on(22, taken, outputs, |taken, outputs| {
             *outputs[GROUPS].size_mut() = counts(taken)[0];
         })
@@ -666,7 +566,7 @@ fn outputs_changed_on_a_refusal() {
 #[test]
 fn one_slice_twice() {
     // Refused, and taken for a single bundle.
-    assert!(!content_passes(|taken, outputs| {
+    assert!(shapes_find(|taken, outputs| {
         let [first, second] = bundles_of(taken).map(<[u8]>::as_ptr);
         match first == second {
             true => 3,
@@ -679,10 +579,10 @@ fn one_slice_twice() {
 fn one_order_alone() {
     // The groups of the second below those of the first are lost, and those
     // above.
-    assert!(!content_passes(|taken, outputs| {
+    assert!(shapes_find(|taken, outputs| {
         lost(taken, outputs, |serial, first| serial < first[0])
     }));
-    assert!(!content_passes(|taken, outputs| {
+    assert!(shapes_find(|taken, outputs| {
         lost(taken, outputs, |serial, first| {
             first.last().is_some_and(|&last| serial > last)
         })
@@ -702,10 +602,10 @@ fn lost(taken: &Taken, outputs: &mut Named<Lent>, is_lost: fn(u32, &[u32]) -> bo
 
 #[test]
 fn random_bundles_of_small_sizes() {
-    let passes = |library: Call| joined_by(library, &[], || vec![SMALL_N]);
-    assert!(passes(right));
+    let small_n_finds = |library| finds(SOME_SMALL, JOIN_BUNDLES, library);
+    assert!(!small_n_finds(right));
     // More than 32 groups.
-    assert!(!passes(|taken, outputs| {
+    assert!(small_n_finds(|taken, outputs| {
         match right(taken, outputs) {
             0 if *outputs[GROUPS].size_mut() > 32 => 13,
             answer => answer,

@@ -1,12 +1,13 @@
 //! The rounds at the largest size find faults that are there alone, and for one
-//! value in eight. That they pass without a fault is shown for values; for the
-//! others it is the comparison itself that shows it.
+//! value in eight; a few of them are enough. That they find none where there is
+//! none is shown for values; for the others it is the comparison itself that shows
+//! it.
 
-use crate::common::{passes, with_library};
+use crate::common::finds;
 use comparison::case::{Call, Group, Taken};
 use comparison::entries::constraints::{Constraints, CONSTRAINTS};
 use comparison::entries::prove::{Prove, PROVE};
-use comparison::entries::rounds::{at_largest, InRounds};
+use comparison::entries::rounds::{at_largest, rounds_at_largest, InRounds};
 use comparison::entries::values::{Values, VALUES};
 use comparison::entries::verify::{Verify, VERIFY};
 use comparison::lent::Lent;
@@ -14,9 +15,9 @@ use comparison::named::Named;
 use comparison::slices::{self, N};
 use reference::large_field::COORDINATES;
 
-/// The many rounds at the largest size alone.
-fn only_largest<E: InRounds>() -> Vec<Group> {
-    vec![at_largest::<E>()]
+/// The first of the many rounds at the largest size.
+const fn first_rounds<E: InRounds>() -> Group {
+    at_largest::<E>().with_cases(|generator, each| rounds_at_largest::<E>(20, generator, each))
 }
 
 /// Whether a word is one of the eighth that the faults are for.
@@ -42,16 +43,14 @@ fn wrong_word(
 
 #[test]
 fn no_fault() {
-    let right = with_library(VALUES, VALUES.library, only_largest::<Values>);
-    assert!(passes(&right, None));
+    assert!(!finds(first_rounds::<Values>(), VALUES, VALUES.library));
 }
 
 #[test]
 fn wrong_last_word_of_values() {
     let wrong: Call =
         |taken, outputs| wrong_word(VALUES.library, taken, outputs, (slices::VALUES, 0));
-    let wrong = with_library(VALUES, wrong, only_largest::<Values>);
-    assert!(!passes(&wrong, None));
+    assert!(finds(first_rounds::<Values>(), VALUES, wrong));
 }
 
 #[test]
@@ -61,15 +60,13 @@ fn wrong_last_word_of_polynomials() {
         let word = (slices::POLYNOMIALS, COORDINATES);
         wrong_word(CONSTRAINTS.library, taken, outputs, word)
     };
-    let wrong = with_library(CONSTRAINTS, wrong, only_largest::<Constraints>);
-    assert!(!passes(&wrong, None));
+    assert!(finds(first_rounds::<Constraints>(), CONSTRAINTS, wrong));
 }
 
 #[test]
 fn wrong_last_word_of_a() {
     let wrong: Call = |taken, outputs| wrong_word(PROVE.library, taken, outputs, (slices::A, 0));
-    let wrong = with_library(PROVE, wrong, only_largest::<Prove>);
-    assert!(!passes(&wrong, None));
+    assert!(finds(first_rounds::<Prove>(), PROVE, wrong));
 }
 
 #[test]
@@ -83,8 +80,7 @@ fn wrong_verdict() {
             answer => answer,
         }
     };
-    let wrong = with_library(VERIFY, wrong, only_largest::<Verify>);
-    assert!(!passes(&wrong, None));
+    assert!(finds(first_rounds::<Verify>(), VERIFY, wrong));
 }
 
 #[test]
@@ -93,6 +89,5 @@ fn every_rejected_proof_accepted() {
         255 if taken.numbers[N] == 64 => 0,
         answer => answer,
     };
-    let wrong = with_library(VERIFY, wrong, only_largest::<Verify>);
-    assert!(!passes(&wrong, None));
+    assert!(finds(first_rounds::<Verify>(), VERIFY, wrong));
 }

@@ -2,16 +2,20 @@
 //! others, and that decide in another order. Each stands in the place of the
 //! library.
 
-use crate::common::passes;
+use crate::common::finds;
 use comparison::case::{Call, Entry, Group, Taken};
-use comparison::entries::files::fields::{both_forms, content_mut};
-use comparison::entries::files::{case, groups, leaning as files, rows_of_bytes, Reader, BYTES};
-use comparison::entries::keyed::{self, Keyed};
+use comparison::entries::check::{self, Check, CHECK};
+use comparison::entries::constraints::{Constraints, CONSTRAINTS};
+use comparison::entries::faults::{one_fault, two_faults};
+use comparison::entries::files::fields::both_forms;
+use comparison::entries::files::{leaning as files, rows_of_bytes, BYTES};
+use comparison::entries::keyed::Keyed;
+use comparison::entries::leaning::{each_row, every_n, nearly};
 use comparison::entries::package_field::{PackageField, FIELD, LENGTH, PART, START, TAG};
 use comparison::entries::prove::{Prove, PROVE};
 use comparison::entries::readers::{ReadCheckFile, ReadPackage, READ_CHECK_FILE, READ_PACKAGE};
 use comparison::entries::values::{Values, VALUES};
-use comparison::entries::{check, constraints, faults, leaning, verify};
+use comparison::entries::verify::{Verify, VERIFY};
 use comparison::lent::Lent;
 use comparison::named::Named;
 use comparison::slices::{self, H, M, N};
@@ -21,19 +25,24 @@ use reference::samples::{independent, unit_rows, Generator};
 use reference::small_field::F;
 use std::ops::Range;
 
-/// Calls that no refusal applies to, as a run has to have some.
-const fn done<E: Keyed>() -> Group {
-    Group::new("done", |generator, each| {
-        for _ in 0..10_000 {
-            each(E::right(keyed::sizes(2, 1), generator));
-        }
-    })
+/// The groups that are run of an entry that takes a key; one in so many cases of
+/// the larger ones.
+fn of_key<E: Keyed>() -> Vec<Group> {
+    let some_n = every_n::<E>().with_cases(|generator, each| {
+        every_n::<E>().one_in(11, generator, each);
+    });
+    vec![
+        some_n,
+        each_row::<E>(),
+        some_nearly::<E>(),
+        one_fault::<E>(),
+        two_faults::<E>(),
+    ]
 }
 
-/// The groups that are run of an entry that takes a key.
-fn of_key<E: Keyed>() -> Vec<Group> {
-    let faults = vec![faults::one_fault::<E>(), faults::two_faults::<E>()];
-    [leaning::groups::<E>(), faults, vec![done::<E>()]].concat()
+/// One in five of the rows that lean but for one bit.
+fn some_nearly<E: Keyed>() -> Group {
+    nearly::<E>().with_cases(|generator, each| nearly::<E>().one_in(5, generator, each))
 }
 
 /// A right values, by the package packed, which is quicker than the reference.
@@ -46,47 +55,25 @@ fn right_prove(taken: &Taken, outputs: &mut Named<Lent>) -> u32 {
     PROVE.packed.expect("an entry of packed")(taken, outputs)
 }
 
-/// Whether values passes with this function in the place of the library.
-fn values_passes(library: Call) -> bool {
-    let entry = Entry {
-        library,
-        table: None,
-        least: leaning::least,
-        groups: of_key::<Values>,
-        ..VALUES
-    };
-    passes(&entry, None)
+/// Whether rows that lean find this function in the place of the library's values.
+fn rows_find(library: Call) -> bool {
+    finds(each_row::<Values>(), VALUES, library)
 }
 
-/// The same of prove.
-fn prove_passes(library: Call) -> bool {
-    let entry = Entry {
-        library,
-        table: None,
-        least: leaning::least,
-        groups: || {
-            vec![
-                leaning::every_n::<Prove>(),
-                leaning::each_row::<Prove>(),
-                faults::one_fault::<Prove>(),
-                faults::two_faults::<Prove>(),
-                UNSOLVED,
-                done::<Prove>(),
-            ]
-        },
-        ..PROVE
-    };
-    passes(&entry, None)
+/// Whether two faults do.
+fn two_faults_find(library: Call) -> bool {
+    finds(two_faults::<Values>(), VALUES, library)
 }
 
-/// Positions that do not solve the key, so that 8 is reached.
-const UNSOLVED: Group = Group::new("8", |generator, each| {
-    for _ in 0..100 {
-        let mut case = Prove::right(keyed::sizes(3, 1), generator);
-        case.set_bytes(slices::POSITIONS, &[0, 0, 1]);
-        each(case.answering(Some(8)));
-    }
-});
+/// Whether rows that lean find this function in the place of the library's prove.
+fn rows_find_prove(library: Call) -> bool {
+    finds(each_row::<Prove>(), PROVE, library)
+}
+
+/// Whether two faults do.
+fn two_faults_find_prove(library: Call) -> bool {
+    finds(two_faults::<Prove>(), PROVE, library)
+}
 
 /// The rows of H of a call, where its sizes, the length of H and its elements are
 /// right.
@@ -116,48 +103,42 @@ fn where_they_lean(call: Call, taken: &Taken, outputs: &mut Named<Lent>, pair: [
     }
 }
 
+/// Whether one of the groups of an entry finds this function.
+fn found<E: Keyed>(entry: Entry, library: Call) -> bool {
+    of_key::<E>()
+        .into_iter()
+        .any(|group| finds(group, entry, library))
+}
+
 #[test]
 fn no_fault() {
-    assert!(values_passes(right_values));
-    assert!(prove_passes(right_prove));
-    for (entry, groups) in [
-        (
-            constraints::CONSTRAINTS,
-            of_key::<constraints::Constraints> as fn() -> _,
-        ),
-        (verify::VERIFY, of_key::<verify::Verify>),
-    ] {
-        let entry = Entry {
-            library: entry.reference,
-            table: None,
-            least: leaning::least,
-            groups,
-            ..entry
-        };
-        assert!(passes(&entry, None));
-    }
+    assert!(!found::<Values>(VALUES, right_values));
+    assert!(!found::<Prove>(PROVE, right_prove));
+    let packed = |entry: Entry| entry.packed.expect("an entry of packed");
+    assert!(!found::<Constraints>(CONSTRAINTS, packed(CONSTRAINTS)));
+    assert!(!found::<Verify>(VERIFY, packed(VERIFY)));
 }
 
 #[test]
 fn leaning_rows_are_taken() {
-    assert!(!values_passes(|taken, outputs| {
+    assert!(rows_find(|taken, outputs| {
         where_they_lean(right_values, taken, outputs, [15, 0])
     }));
-    assert!(!prove_passes(|taken, outputs| {
+    assert!(rows_find_prove(|taken, outputs| {
         where_they_lean(right_prove, taken, outputs, [15, 0])
     }));
 }
 
 #[test]
 fn fifteen_before_four() {
-    assert!(!values_passes(|taken, outputs| {
+    assert!(two_faults_find(|taken, outputs| {
         where_they_lean(right_values, taken, outputs, [4, 15])
     }));
 }
 
 #[test]
 fn fifteen_before_three() {
-    assert!(!values_passes(|taken, outputs| {
+    assert!(two_faults_find(|taken, outputs| {
         where_they_lean(right_values, taken, outputs, [3, 15])
     }));
 }
@@ -186,19 +167,19 @@ fn judged_last(call: Call, later: &[u32], taken: &Taken, outputs: &mut Named<Len
 
 #[test]
 fn fifteen_after_others() {
-    assert!(!values_passes(|taken, outputs| {
+    assert!(two_faults_find(|taken, outputs| {
         judged_last(right_values, &[5], taken, outputs)
     }));
-    assert!(!values_passes(|taken, outputs| {
+    assert!(two_faults_find(|taken, outputs| {
         judged_last(right_values, &[6], taken, outputs)
     }));
-    assert!(!prove_passes(|taken, outputs| {
+    assert!(two_faults_find_prove(|taken, outputs| {
         judged_last(right_prove, &[7], taken, outputs)
     }));
-    assert!(!prove_passes(|taken, outputs| {
+    assert!(two_faults_find_prove(|taken, outputs| {
         judged_last(right_prove, &[16], taken, outputs)
     }));
-    assert!(!prove_passes(|taken, outputs| {
+    assert!(rows_find_prove(|taken, outputs| {
         judged_last(right_prove, &[8], taken, outputs)
     }));
 }
@@ -214,12 +195,12 @@ fn only(way: fn(usize, &[u16]) -> bool, taken: &Taken, outputs: &mut Named<Lent>
 #[test]
 fn some_ways_to_lean_are_not_seen() {
     // A row of zeros is.
-    assert!(!values_passes(|taken, outputs| {
+    assert!(rows_find(|taken, outputs| {
         let zero = |n, h: &[u16]| h.chunks(n).any(|row| row.iter().all(|&word| word == 0));
         only(zero, taken, outputs)
     }));
     // Two rows are.
-    assert!(!values_passes(|taken, outputs| {
+    assert!(rows_find(|taken, outputs| {
         let pairs = |n, h: &[u16]| {
             let rows: Vec<&[u16]> = h.chunks(n).collect();
             let lean = |one: &[u16], other: &[u16]| !independent(&[one, other].concat(), n);
@@ -231,19 +212,20 @@ fn some_ways_to_lean_are_not_seen() {
         only(pairs, taken, outputs)
     }));
     // The rows without the last are.
-    assert!(!values_passes(|taken, outputs| {
+    assert!(rows_find(|taken, outputs| {
         only(|n, h| !independent(&h[..h.len() - n], n), taken, outputs)
     }));
     // One row alone is not.
-    assert!(!values_passes(|taken, outputs| {
+    assert!(rows_find(|taken, outputs| {
         only(|n, h| h.len() > n, taken, outputs)
     }));
 }
 
 #[test]
 fn rows_that_do_not_lean_are_refused() {
+    let nearly_finds = |library| finds(some_nearly::<Values>(), VALUES, library);
     // Those that lean without their last column.
-    assert!(!values_passes(|taken, outputs| {
+    assert!(nearly_finds(|taken, outputs| {
         let before = outputs.clone();
         let answer = right_values(taken, outputs);
         let shorter = rows(taken).filter(|_| answer == 0).map(|(n, h)| {
@@ -260,7 +242,7 @@ fn rows_that_do_not_lean_are_refused() {
 
 #[test]
 fn an_output_changed_where_rows_lean() {
-    assert!(!values_passes(|taken, outputs| {
+    assert!(rows_find(|taken, outputs| {
         let answer = right_values(taken, outputs);
         if answer == 15 {
             outputs[slices::VALUES].change(0, 0);
@@ -269,50 +251,42 @@ fn an_output_changed_where_rows_lean() {
     }));
 }
 
-/// The groups that are run of an entry that takes a file.
-fn of_file<R: Reader>() -> Vec<Group> {
-    vec![
-        files::whole_files::<R>(),
-        files::beside_other_faults::<R>(),
-        files::after_x::<R>(),
-        files::prefixes::<R>(),
-        groups::one_fault::<R>(),
-        groups::two_faults::<R>(),
-        Group::new("done", |generator, each| {
-            for _ in 0..36_000 {
-                let fields = R::fields(2, 1, generator);
-                let bytes = join(R::FILE.part(&fields));
-                each(case::<R>(&bytes, Some(0), generator));
-            }
-        }),
-    ]
-}
+/// A group of files, of a reader.
+type OfFiles = [fn() -> Group; 2];
 
-/// Whether both readers pass with these functions in the place of the library.
-fn readers_pass(package: Call, check_file: Call) -> [bool; 2] {
-    [
-        (READ_PACKAGE, package, of_file::<ReadPackage> as fn() -> _),
-        (READ_CHECK_FILE, check_file, of_file::<ReadCheckFile>),
-    ]
-    .map(|(entry, library, groups)| {
-        let entry = Entry {
-            library,
-            table: None,
-            groups,
-            ..entry
-        };
-        passes(&entry, None)
-    })
-}
-
-/// Both readers of the reference, with another answer for some bytes.
-macro_rules! readers_pass_with {
-    ($other:expr) => {
-        readers_pass(
-            |taken, outputs| other_answer(READ_PACKAGE.reference, $other, taken, outputs),
-            |taken, outputs| other_answer(READ_CHECK_FILE.reference, $other, taken, outputs),
-        )
+/// The groups of both readers.
+macro_rules! of_both {
+    ($group:ident) => {
+        [
+            || files::$group::<ReadPackage>(),
+            || files::$group::<ReadCheckFile>(),
+        ]
     };
+}
+
+/// Rows that lean beside a fault at each place.
+const BESIDE: OfFiles = of_both!(beside_other_faults);
+
+/// All that can follow x.
+const AFTER_X: OfFiles = of_both!(after_x);
+
+/// Every prefix.
+const PREFIXES: OfFiles = of_both!(prefixes);
+
+/// Whether a group of files finds the readers of the reference, with another answer
+/// for some bytes, in the place of the library's.
+macro_rules! readers_found {
+    ($groups:expr, $other:expr) => {{
+        let [package, check_file] = $groups;
+        [
+            finds(package(), READ_PACKAGE, |taken, outputs| {
+                other_answer(READ_PACKAGE.reference, $other, taken, outputs)
+            }),
+            finds(check_file(), READ_CHECK_FILE, |taken, outputs| {
+                other_answer(READ_CHECK_FILE.reference, $other, taken, outputs)
+            }),
+        ]
+    }};
 }
 
 /// A reader's answer, which another function changes; nothing is written then.
@@ -369,28 +343,31 @@ fn answer_for(read: Call, taken: &Taken, bytes: &[u8]) -> u32 {
 
 #[test]
 fn no_fault_of_readers() {
-    assert_eq!(readers_pass_with!(|_, _, answer| answer), [true, true]);
+    for groups in [BESIDE, AFTER_X, PREFIXES] {
+        let found = readers_found!(groups, |_, _, answer| answer);
+        assert_eq!(found, [false, false]);
+    }
 }
 
 #[test]
 fn leaning_files_are_read() {
-    let found = readers_pass_with!(|_, _, answer| if answer == 15 { 0 } else { answer });
-    assert_eq!(found, [false, false]);
+    let found = readers_found!(BESIDE, |_, _, answer| if answer == 15 { 0 } else { answer });
+    assert_eq!(found, [true, true]);
 }
 
 #[test]
 fn fifteen_after_all_fields() {
-    let found = readers_pass_with!(|read, taken, answer| {
+    let found = readers_found!(BESIDE, |read, taken, answer| {
         let units = with_unit_rows(taken.bytes(BYTES)).filter(|_| answer == 15);
         let found = units.map(|bytes| answer_for(read, taken, &bytes));
         found.filter(|&found| found != 0).unwrap_or(answer)
     });
-    assert_eq!(found, [false, false]);
+    assert_eq!(found, [true, true]);
 }
 
 #[test]
 fn fifteen_with_the_field_of_h() {
-    let found = readers_pass_with!(|read, taken, answer| {
+    let found = readers_found!(BESIDE, |read, taken, answer| {
         let bytes = taken.bytes(BYTES);
         let Some(units) = with_unit_rows(bytes) else {
             return answer;
@@ -402,12 +379,12 @@ fn fifteen_with_the_field_of_h() {
             _ => answer,
         }
     });
-    assert_eq!(found, [false, false]);
+    assert_eq!(found, [true, true]);
 }
 
 #[test]
 fn fifteen_before_the_target() {
-    let found = readers_pass_with!(|read, taken, answer| {
+    let found = readers_found!(AFTER_X, |read, taken, answer| {
         let bytes = taken.bytes(BYTES);
         let Some((_, [_, x])) = key_of(bytes).filter(|_| with_unit_rows(bytes).is_some()) else {
             return answer;
@@ -418,36 +395,36 @@ fn fifteen_before_the_target() {
             _ => answer,
         }
     });
-    assert_eq!(found, [false, false]);
+    assert_eq!(found, [true, true]);
 }
 
 #[test]
 fn a_lone_tag_of_the_target_is_no_field() {
-    let found = readers_pass_with!(|_, taken, answer| {
+    let found = readers_found!(PREFIXES, |_, taken, answer| {
         let bytes = taken.bytes(BYTES);
         match key_of(bytes).filter(|_| with_unit_rows(bytes).is_some()) {
             Some((_, [_, x])) if answer == 9 && bytes.len() == x.end + 1 => 15,
             _ => answer,
         }
     });
-    assert_eq!(found, [false, false]);
+    assert_eq!(found, [true, true]);
 }
 
 #[test]
 fn a_file_that_ends_after_x_is_cut() {
-    let found = readers_pass_with!(|_, taken, answer| {
+    let found = readers_found!(PREFIXES, |_, taken, answer| {
         let bytes = taken.bytes(BYTES);
         match key_of(bytes) {
             Some((_, [_, x])) if answer == 15 && bytes.len() == x.end => 9,
             _ => answer,
         }
     });
-    assert_eq!(found, [false, false]);
+    assert_eq!(found, [true, true]);
 }
 
 #[test]
 fn another_tag_after_x_before_fifteen() {
-    let found = readers_pass_with!(|_, taken, answer| {
+    let found = readers_found!(AFTER_X, |_, taken, answer| {
         let bytes = taken.bytes(BYTES);
         let next = key_of(bytes).and_then(|(_, [_, x])| bytes.get(x.end));
         match next {
@@ -455,32 +432,19 @@ fn another_tag_after_x_before_fifteen() {
             _ => answer,
         }
     });
-    assert_eq!(found, [false, false]);
-}
-
-/// Whether the field of a package passes with this function in the place of the
-/// library.
-fn field_passes(library: Call) -> bool {
-    let entry = Entry {
-        library,
-        table: None,
-        // None is accepted.
-        package: None,
-        groups: || {
-            vec![
-                files::whole_files::<PackageField>(),
-                files::prefixes::<PackageField>(),
-            ]
-        },
-        ..FIELD
-    };
-    passes(&entry, None)
+    assert_eq!(found, [true, true]);
 }
 
 #[test]
 fn fifteen_left_out_in_field() {
-    assert!(field_passes(FIELD.reference));
-    assert!(!field_passes(|taken, outputs| {
+    // No package is accepted.
+    let field = Entry {
+        package: None,
+        ..FIELD
+    };
+    let prefixes = files::prefixes::<PackageField>();
+    assert!(!finds(prefixes, field, FIELD.reference));
+    assert!(finds(prefixes, field, |taken, outputs| {
         let bytes = taken.bytes(BYTES);
         let range = with_unit_rows(bytes).map(|bytes| {
             let tag = taken.numbers[TAG] as u8;
@@ -496,37 +460,17 @@ fn fifteen_left_out_in_field() {
     }));
 }
 
-/// Whether check passes with this function in the place of the library.
-fn check_passes(library: Call) -> bool {
-    let entry = Entry {
-        library,
-        table: None,
-        groups: || {
-            let rejected = Group::new("rejected", |generator, each| {
-                for _ in 0..100 {
-                    let mut fields = check::Check::fields(2, 1, generator);
-                    let a = content_mut(&mut fields, tag::A);
-                    a[1] ^= 1;
-                    each(case::<check::Check>(&join(&fields), Some(0), generator));
-                }
-            });
-            let own = vec![check::LEANING, rejected];
-            [of_file::<check::Check>(), own].concat()
-        },
-        ..check::CHECK
-    };
-    passes(&entry, None)
-}
-
 #[test]
 fn leaning_files_are_accepted() {
-    assert!(check_passes(check::CHECK.reference));
-    assert!(!check_passes(|taken, outputs| {
-        match (check::CHECK.reference)(taken, outputs) {
-            15 => 0,
-            answer => answer,
-        }
-    }));
+    for group in [check::LEANING, files::prefixes::<Check>()] {
+        assert!(!finds(group, CHECK, CHECK.reference));
+        assert!(finds(group, CHECK, |taken, outputs| {
+            match (CHECK.reference)(taken, outputs) {
+                15 => 0,
+                answer => answer,
+            }
+        }));
+    }
 }
 
 #[test]

@@ -1,18 +1,35 @@
 //! The groups of rank find other ways to eliminate, and other ways to refuse.
 //! Each stands in the place of the library.
 
-use crate::common::passes;
-use comparison::case::{Call, Entry, Taken};
-use comparison::entries::rank::{OUT, RANK};
+use crate::common::finds;
+use comparison::case::{Call, Taken};
+use comparison::entries::faults::{one_fault, two_faults};
+use comparison::entries::rank::{Rank, LARGEST, OUT, RANK, SMALL};
 use comparison::lent::Lent;
 use comparison::named::Named;
 use comparison::slices::{H, M, MATRIX, N};
 use reference::logarithms::OF_F;
 use reference::small_field::F;
 
-/// Whether rank passes with this function in the place of the library.
-fn rank_passes(library: Call) -> bool {
-    passes(&Entry { library, ..RANK }, None)
+/// Whether all small matrices of some words find this function in the place of the
+/// library.
+fn small_find(library: Call) -> bool {
+    finds(SMALL, RANK, library)
+}
+
+/// Whether one fault of a call does.
+fn one_fault_finds(library: Call) -> bool {
+    finds(one_fault::<Rank>(), RANK, library)
+}
+
+/// Whether two faults of a call do.
+fn two_faults_find(library: Call) -> bool {
+    finds(two_faults::<Rank>(), RANK, library)
+}
+
+/// Whether matrices of the largest n do.
+fn largest_find(library: Call) -> bool {
+    finds(LARGEST, RANK, library)
 }
 
 /// The element of F with this number.
@@ -114,13 +131,15 @@ macro_rules! with_step {
 
 #[test]
 fn no_fault() {
-    assert!(rank_passes(RANK.reference));
-    assert!(rank_passes(with_step!(right)));
+    for finds in [small_find, one_fault_finds, two_faults_find, largest_find] {
+        assert!(!finds(RANK.reference));
+        assert!(!finds(with_step!(right)));
+    }
 }
 
 #[test]
 fn the_highest_row_is_taken() {
-    assert!(!rank_passes(with_step!(|rows, column, candidates| {
+    assert!(small_find(with_step!(|rows, column, candidates| {
         let mut candidates = candidates.to_vec();
         candidates.reverse();
         right(rows, column, &candidates);
@@ -129,7 +148,7 @@ fn the_highest_row_is_taken() {
 
 #[test]
 fn rows_change_places() {
-    assert!(!rank_passes(with_step!(|rows, column, candidates| {
+    assert!(small_find(with_step!(|rows, column, candidates| {
         let first = rows.used.iter().position(|used| !used);
         let (first, found) = (first.expect("an unused row"), candidates[0]);
         rows.exchange(first, found);
@@ -141,7 +160,7 @@ fn rows_change_places() {
 
 #[test]
 fn used_rows_below_are_cleared_too() {
-    assert!(!rank_passes(with_step!(|rows, column, candidates| {
+    assert!(small_find(with_step!(|rows, column, candidates| {
         let taken = candidates[0];
         for row in taken + 1..rows.count() {
             if rows.at(row, column) != 0 {
@@ -154,7 +173,7 @@ fn used_rows_below_are_cleared_too() {
 
 #[test]
 fn used_rows_above_are_cleared_too() {
-    assert!(!rank_passes(with_step!(|rows, column, candidates| {
+    assert!(small_find(with_step!(|rows, column, candidates| {
         right(rows, column, candidates);
         let taken = candidates[0];
         for row in 0..taken {
@@ -167,7 +186,7 @@ fn used_rows_above_are_cleared_too() {
 
 #[test]
 fn the_row_taken_begins_with_one() {
-    assert!(!rank_passes(with_step!(|rows, column, candidates| {
+    assert!(small_find(with_step!(|rows, column, candidates| {
         right(rows, column, candidates);
         let taken = candidates[0];
         let first = element(rows.at(taken, column));
@@ -181,7 +200,7 @@ fn the_row_taken_begins_with_one() {
 
 #[test]
 fn the_last_row_is_not_cleared() {
-    assert!(!rank_passes(with_step!(|rows, column, candidates| {
+    assert!(small_find(with_step!(|rows, column, candidates| {
         let last = rows.count() - 1;
         let others: Vec<usize> = candidates.iter().copied().filter(|&e| e < last).collect();
         match others[..] {
@@ -193,7 +212,7 @@ fn the_last_row_is_not_cleared() {
 
 #[test]
 fn columns_from_the_last() {
-    assert!(!rank_passes(|taken, outputs| eliminated(
+    assert!(small_find(|taken, outputs| eliminated(
         taken, outputs, true, right
     )));
 }
@@ -210,14 +229,14 @@ fn other_rank(taken: &Taken, outputs: &mut Named<Lent>, change: fn(usize, usize)
 
 #[test]
 fn a_rank_one_too_large() {
-    assert!(!rank_passes(|taken, outputs| {
+    assert!(small_find(|taken, outputs| {
         other_rank(taken, outputs, |rank, _| rank + 1)
     }));
     // Where it is short alone.
-    assert!(!rank_passes(|taken, outputs| {
+    assert!(small_find(|taken, outputs| {
         other_rank(taken, outputs, |rank, m| m.min(rank + 1))
     }));
-    assert!(!rank_passes(|taken, outputs| other_rank(
+    assert!(small_find(|taken, outputs| other_rank(
         taken,
         outputs,
         |_, m| m
@@ -226,7 +245,7 @@ fn a_rank_one_too_large() {
 
 #[test]
 fn a_short_rank_is_refused() {
-    assert!(!rank_passes(|taken, outputs| {
+    assert!(small_find(|taken, outputs| {
         let before = outputs.clone();
         let answer = (RANK.reference)(taken, outputs);
         if answer == 0 && *outputs[OUT].size_mut() < taken.numbers[M] {
@@ -248,23 +267,23 @@ fn changed_on(number: u32, output: &str, taken: &Taken, outputs: &mut Named<Lent
 
 #[test]
 fn an_output_changed_on_a_refusal() {
-    assert!(!rank_passes(|taken, outputs| changed_on(
+    assert!(one_fault_finds(|taken, outputs| changed_on(
         4, MATRIX, taken, outputs
     )));
-    assert!(!rank_passes(|taken, outputs| changed_on(
+    assert!(one_fault_finds(|taken, outputs| changed_on(
         3, MATRIX, taken, outputs
     )));
-    assert!(!rank_passes(|taken, outputs| changed_on(
+    assert!(one_fault_finds(|taken, outputs| changed_on(
         1, OUT, taken, outputs
     )));
-    assert!(!rank_passes(|taken, outputs| changed_on(
+    assert!(one_fault_finds(|taken, outputs| changed_on(
         4, OUT, taken, outputs
     )));
 }
 
 #[test]
 fn h_copied_before_it_is_refused() {
-    assert!(!rank_passes(|taken, outputs| {
+    assert!(one_fault_finds(|taken, outputs| {
         let answer = (RANK.reference)(taken, outputs);
         let h = taken.words(H);
         let matrix = outputs[MATRIX].words_mut();
@@ -278,7 +297,7 @@ fn h_copied_before_it_is_refused() {
 #[test]
 fn refusals_in_another_order() {
     // 4 before 3.
-    assert!(!rank_passes(|taken, outputs| {
+    assert!(two_faults_find(|taken, outputs| {
         let above = taken.words(H).iter().any(|&word| word > F::LARGEST);
         match (RANK.reference)(taken, outputs) {
             3 if above => 4,
@@ -286,7 +305,7 @@ fn refusals_in_another_order() {
         }
     }));
     // 2 before 1.
-    assert!(!rank_passes(|taken, outputs| {
+    assert!(two_faults_find(|taken, outputs| {
         let (n, m) = (taken.numbers[N], taken.numbers[M]);
         match (RANK.reference)(taken, outputs) {
             1 if m == 0 || m >= n => 2,
@@ -294,7 +313,7 @@ fn refusals_in_another_order() {
         }
     }));
     // 3 before 2.
-    assert!(!rank_passes(|taken, outputs| {
+    assert!(two_faults_find(|taken, outputs| {
         let short = taken.words(H).is_empty();
         match (RANK.reference)(taken, outputs) {
             2 if short => 3,
@@ -305,7 +324,7 @@ fn refusals_in_another_order() {
 
 #[test]
 fn the_length_of_the_matrix_is_not_looked_at() {
-    assert!(!rank_passes(|taken, outputs| {
+    assert!(one_fault_finds(|taken, outputs| {
         let sizes = taken.numbers[M].checked_mul(taken.numbers[N]);
         let right = sizes == Some(taken.words(H).len());
         match (RANK.reference)(taken, outputs) {
@@ -317,7 +336,7 @@ fn the_length_of_the_matrix_is_not_looked_at() {
 
 #[test]
 fn only_the_largest_is_wrong() {
-    assert!(!rank_passes(|taken, outputs| {
+    assert!(largest_find(|taken, outputs| {
         let answer = (RANK.reference)(taken, outputs);
         if answer == 0 && (taken.numbers[N], taken.numbers[M]) == (64, 63) {
             let matrix = outputs[MATRIX].words_mut();

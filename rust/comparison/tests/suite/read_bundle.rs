@@ -1,11 +1,11 @@
 //! The groups of read bundle, and of packages and bundles that are read as each
 //! other, find wrong readers. Each stands in the place of the library.
 
-use crate::common::{one_in, passes};
+use crate::common::finds;
 use comparison::case::{Call, Entry, Group, Taken};
 use comparison::entries::bundles::package::{AsBundle, BUNDLES, PACKAGE_AS_BUNDLE};
 use comparison::entries::bundles::parts::{serial_of, Bundle};
-use comparison::entries::bundles::read::{of_right, READ_BUNDLE};
+use comparison::entries::bundles::read::READ_BUNDLE;
 use comparison::entries::bundles::read_groups::{
     FOLLOWING, MANY, ONE_FAULT, ORDER, PREFIXES, SERIALS, TWO_FAULTS,
 };
@@ -20,21 +20,15 @@ use reference::package::{join, tag};
 use reference::samples::Generator;
 use reference::Refusal;
 
-/// Right bundles, so that enough calls are done.
-const RIGHT: Group = Group::new("right", |generator, each| {
-    let bundle = Bundle::any(2, 1, 3, generator);
-    (0..7_000).for_each(|_| each(of_right(&bundle, generator)));
-});
-
 /// One in five of the pairs of faults.
 const SOME_FAULTS: Group = Group::new("some faults", |generator, each| {
-    one_in(5, &TWO_FAULTS, generator, each);
+    TWO_FAULTS.one_in(5, generator, each);
 })
 .with_any_rows();
 
 /// One in seven of the pairs of serials.
 const SOME_SERIALS: Group = Group::new("serials", |generator, each| {
-    one_in(7, &SERIALS, generator, each);
+    SERIALS.one_in(7, generator, each);
 });
 
 /// Faults of bundles up to n = 9.
@@ -49,48 +43,40 @@ const SMALL_FAULTS: Group = Group::new("one fault", |generator, each| {
 })
 .with_any_rows();
 
-/// The entry with this function in the place of the library, in these groups,
-/// where these refusals are reached.
-fn read_by(library: Call, refusals: &'static [Refusal], groups: fn() -> Vec<Group>) -> bool {
-    let entry = Entry {
-        refusals,
-        table: None,
-        library,
-        groups,
-        ..READ_BUNDLE
-    };
-    passes(&entry, None)
+/// Whether bundles whose bytes are written out find this function in the place of
+/// the library.
+fn by_hand_finds(library: Call) -> bool {
+    finds(by_hand::READ, READ_BUNDLE, library)
 }
 
-/// Whether a reader passes where serials rise and do not.
-fn serials_pass(library: Call) -> bool {
-    const REACHED: &[Refusal] = &[
-        Refusal::BytesMissing,
-        Refusal::LongSerial,
-        Refusal::SerialOrder,
-    ];
-    read_by(library, REACHED, || vec![by_hand::READ, SOME_SERIALS])
+/// Whether pairs of serials do.
+fn serials_find(library: Call) -> bool {
+    finds(SOME_SERIALS, READ_BUNDLE, library)
 }
 
-/// Whether a reader passes with faults.
-fn faults_pass(library: Call) -> bool {
-    read_by(library, READ_BUNDLE.refusals, || {
-        vec![RIGHT, SMALL_FAULTS, SOME_FAULTS]
-    })
+/// Whether one fault of a bundle does.
+fn one_fault_finds(library: Call) -> bool {
+    finds(SMALL_FAULTS, READ_BUNDLE, library)
 }
 
-/// Whether a reader passes where groups follow each other, and other bytes do.
-fn following_passes(library: Call) -> bool {
-    const REACHED: &[Refusal] = &[
-        Refusal::BytesMissing,
-        Refusal::Tag,
-        Refusal::FieldLength,
-        Refusal::LongSerial,
-        Refusal::SerialOrder,
-    ];
-    read_by(library, REACHED, || {
-        vec![by_hand::READ, RIGHT, ORDER, FOLLOWING]
-    })
+/// Whether two faults of a bundle do.
+fn two_faults_find(library: Call) -> bool {
+    finds(SOME_FAULTS, READ_BUNDLE, library)
+}
+
+/// Whether groups and fields in another order do.
+fn order_finds(library: Call) -> bool {
+    finds(ORDER, READ_BUNDLE, library)
+}
+
+/// Whether bytes that follow a group do.
+fn following_finds(library: Call) -> bool {
+    finds(FOLLOWING, READ_BUNDLE, library)
+}
+
+/// Whether prefixes of bundles do.
+fn prefixes_find(library: Call) -> bool {
+    finds(PREFIXES, READ_BUNDLE, library)
 }
 
 /// The answer of the reference, and what it writes.
@@ -118,8 +104,16 @@ fn not_above(bundle: &Bundle) -> Option<usize> {
 
 #[test]
 fn no_fault() {
-    for passes in [serials_pass, faults_pass, following_passes] {
-        assert!(passes(right));
+    for finds in [
+        by_hand_finds,
+        serials_find,
+        one_fault_finds,
+        two_faults_find,
+        order_finds,
+        following_finds,
+        prefixes_find,
+    ] {
+        assert!(!finds(right));
     }
 }
 
@@ -139,13 +133,13 @@ fn every_fault_of_a_bundle_has_its_answer() {
 #[test]
 fn serials_that_do_not_rise() {
     // All are taken, and those that are equal.
-    assert!(!serials_pass(|taken, outputs| {
+    assert!(serials_find(|taken, outputs| {
         match right(taken, outputs) {
             20 => 0,
             answer => answer,
         }
     }));
-    assert!(!serials_pass(|taken, outputs| {
+    assert!(serials_find(|taken, outputs| {
         let serials = bundle_of(taken).serials();
         let equal = serials.windows(2).any(|pair| pair[0] == pair[1]);
         match right(taken, outputs) {
@@ -154,7 +148,7 @@ fn serials_that_do_not_rise() {
         }
     }));
     // A serial is compared with that of the first group.
-    assert!(!serials_pass(|taken, outputs| {
+    assert!(serials_find(|taken, outputs| {
         let serials = bundle_of(taken).serials();
         let above_first = serials.iter().skip(1).all(|&serial| serial > serials[0]);
         match right(taken, outputs) {
@@ -189,15 +183,15 @@ fn number(content: &[u8]) -> u32 {
 #[test]
 fn serials_in_another_order() {
     // By their bytes, by their last bytes, and as numbers with a sign.
-    assert!(!serials_pass(|taken, outputs| {
+    assert!(serials_find(|taken, outputs| {
         by_order(taken, outputs, |serial, before| serial > before)
     }));
-    assert!(!serials_pass(|taken, outputs| {
+    assert!(serials_find(|taken, outputs| {
         by_order(taken, outputs, |serial, before| {
             number(serial) as u16 > number(before) as u16
         })
     }));
-    assert!(!serials_pass(|taken, outputs| {
+    assert!(serials_find(|taken, outputs| {
         by_order(taken, outputs, |serial, before| {
             number(serial) as i32 > number(before) as i32
         })
@@ -224,14 +218,14 @@ fn before_20(taken: &Taken, outputs: &mut Named<Lent>, field: usize, answer: u32
 #[test]
 fn twenty_at_another_place() {
     // After 5 and after 6 of the same group.
-    assert!(!faults_pass(|taken, outputs| before_20(
+    assert!(two_faults_find(|taken, outputs| before_20(
         taken, outputs, 1, 5
     )));
-    assert!(!faults_pass(|taken, outputs| before_20(
+    assert!(two_faults_find(|taken, outputs| before_20(
         taken, outputs, 2, 6
     )));
     // After the tag and the length of field 06.
-    assert!(!following_passes(|taken, outputs| {
+    assert!(following_finds(|taken, outputs| {
         let bundle = bundle_of(taken);
         let cut = not_above(&bundle).is_none();
         match right(taken, outputs) {
@@ -240,7 +234,7 @@ fn twenty_at_another_place() {
         }
     }));
     // Before 19.
-    assert!(!faults_pass(|taken, outputs| {
+    assert!(two_faults_find(|taken, outputs| {
         let bytes = taken.bytes(BYTES);
         match right(taken, outputs) {
             19 if not_above(&Bundle::walked(bytes)).is_some() => 20,
@@ -248,7 +242,7 @@ fn twenty_at_another_place() {
         }
     }));
     // After all groups have been read.
-    assert!(!faults_pass(|taken, outputs| {
+    assert!(two_faults_find(|taken, outputs| {
         match right(taken, outputs) {
             20 => last_group(taken).unwrap_or(20),
             answer => answer,
@@ -267,28 +261,28 @@ fn last_group(taken: &Taken) -> Option<u32> {
 #[test]
 fn bytes_after_a_group() {
     // 12, with one or two bytes and with another tag.
-    assert!(!following_passes(|taken, outputs| {
+    assert!(following_finds(|taken, outputs| {
         let left = bytes_left(taken);
         match right(taken, outputs) {
             9 if (1..3).contains(&left) => 12,
             answer => answer,
         }
     }));
-    assert!(!following_passes(|taken, outputs| {
+    assert!(following_finds(|taken, outputs| {
         match right(taken, outputs) {
             10 if of_first_group(taken).is_ok() => 12,
             answer => answer,
         }
     }));
     // Left out of account: one byte, and everything.
-    assert!(!following_passes(|taken, outputs| {
+    assert!(following_finds(|taken, outputs| {
         let left = bytes_left(taken);
         match right(taken, outputs) {
             9 if left == 1 => 0,
             answer => answer,
         }
     }));
-    assert!(!following_passes(|taken, outputs| {
+    assert!(following_finds(|taken, outputs| {
         match right(taken, outputs) {
             10 if of_first_group(taken).is_ok() => 0,
             answer => answer,
@@ -307,8 +301,8 @@ fn bytes_left(taken: &Taken) -> usize {
 
 #[test]
 fn no_group() {
-    for passes in [serials_pass, following_passes] {
-        assert!(!passes(|taken, outputs| {
+    for finds in [by_hand_finds, order_finds, following_finds] {
+        assert!(finds(|taken, outputs| {
             let bytes = taken.bytes(BYTES);
             let bundle = bundle_of(taken);
             match right(taken, outputs) {
@@ -325,11 +319,21 @@ fn no_group() {
 #[test]
 fn further_groups_not_judged() {
     // 5, 6, 10, 11 and 19 of a group after the first.
-    assert!(!faults_pass(|taken, outputs| of_first(5, taken, outputs)));
-    assert!(!faults_pass(|taken, outputs| of_first(6, taken, outputs)));
-    assert!(!faults_pass(|taken, outputs| of_first(10, taken, outputs)));
-    assert!(!faults_pass(|taken, outputs| of_first(11, taken, outputs)));
-    assert!(!faults_pass(|taken, outputs| of_first(19, taken, outputs)));
+    assert!(one_fault_finds(|taken, outputs| of_first(
+        5, taken, outputs
+    )));
+    assert!(one_fault_finds(|taken, outputs| of_first(
+        6, taken, outputs
+    )));
+    assert!(one_fault_finds(|taken, outputs| of_first(
+        10, taken, outputs
+    )));
+    assert!(one_fault_finds(|taken, outputs| of_first(
+        11, taken, outputs
+    )));
+    assert!(one_fault_finds(|taken, outputs| of_first(
+        19, taken, outputs
+    )));
 }
 
 /// The answer of the reference; done in the place of this refusal of a further
@@ -344,13 +348,13 @@ fn of_first(refusal: u32, taken: &Taken, outputs: &mut Named<Lent>) -> u32 {
 #[test]
 fn the_key_judged_otherwise() {
     // 15 left out, after the groups, and 4 of y alone left out.
-    assert!(!faults_pass(|taken, outputs| {
+    assert!(one_fault_finds(|taken, outputs| {
         match right(taken, outputs) {
             15 => 0,
             answer => answer,
         }
     }));
-    assert!(!faults_pass(|taken, outputs| {
+    assert!(two_faults_find(|taken, outputs| {
         let bundle = bundle_of(taken);
         let wrong = bundle
             .groups
@@ -361,7 +365,7 @@ fn the_key_judged_otherwise() {
             answer => answer,
         }
     }));
-    assert!(!faults_pass(|taken, outputs| {
+    assert!(one_fault_finds(|taken, outputs| {
         let key = bundle_of(taken).key;
         let last = key.last().filter(|field| field.tag == tag::Y);
         let above = last.is_some_and(|y| y.content.chunks(2).any(|word| word[0] > 7));
@@ -396,21 +400,21 @@ fn other_numbers() {
         },
         |taken, outputs| right(taken, &mut outputs.clone()),
     ] {
-        assert!(!serials_pass(library));
+        assert!(by_hand_finds(library));
     }
 }
 
 #[test]
 fn numbers_written_on_a_refusal() {
     // Those of the key, and the groups before the refusal.
-    assert!(!faults_pass(|taken, outputs| {
+    assert!(one_fault_finds(|taken, outputs| {
         let answer = right(taken, outputs);
         if answer == 5 {
             *outputs[N].number_mut() = 2;
         }
         answer
     }));
-    assert!(!serials_pass(|taken, outputs| {
+    assert!(serials_find(|taken, outputs| {
         let answer = right(taken, outputs);
         if answer == 20 {
             *outputs[GROUPS].size_mut() = 1;
@@ -421,13 +425,8 @@ fn numbers_written_on_a_refusal() {
 
 #[test]
 fn prefixes() {
-    const REACHED: &[Refusal] = &[Refusal::BytesMissing];
-    fn prefixes_pass(library: Call) -> bool {
-        read_by(library, REACHED, || vec![PREFIXES, RIGHT])
-    }
-    assert!(prefixes_pass(right));
     // The last byte is not needed.
-    assert!(!prefixes_pass(|taken, outputs| {
+    assert!(prefixes_find(|taken, outputs| {
         let bytes = taken.bytes(BYTES);
         let longer = [bytes, &[0]].concat();
         match right(taken, outputs) {
@@ -436,7 +435,7 @@ fn prefixes() {
         }
     }));
     // A bundle that ends with a group is not at its end.
-    assert!(!prefixes_pass(|taken, outputs| {
+    assert!(prefixes_find(|taken, outputs| {
         let groups = bundle_of(taken).groups;
         match right(taken, outputs) {
             0 if groups.len() == 2 => 9,
@@ -445,28 +444,26 @@ fn prefixes() {
     }));
 }
 
+/// Bundles of many groups that are accepted, or refused for the last serial.
+const SOME_MANY: Group = MANY.with_cases(|generator, each| {
+    (MANY.cases)(generator, &mut |case| {
+        if case.answer == Some(0) || case.answer == Some(20) {
+            each(case);
+        }
+    });
+});
+
 #[test]
 fn many_groups() {
-    fn many_pass(library: Call) -> bool {
-        const FEW: Group = Group::new("few", |generator, each| {
-            (MANY.cases)(generator, &mut |case| {
-                if case.answer == Some(0) || case.answer == Some(20) {
-                    each(case);
-                }
-            });
-            let bundle = Bundle::any(2, 1, 3, generator);
-            (0..20).for_each(|_| each(of_right(&bundle, generator)));
-        });
-        read_by(library, &[Refusal::SerialOrder], || vec![FEW])
-    }
-    assert!(many_pass(right));
+    let many_find = |library| finds(SOME_MANY, READ_BUNDLE, library);
+    assert!(!many_find(right));
     // The number in two bytes, and a largest number of groups.
-    assert!(!many_pass(|taken, outputs| {
+    assert!(many_find(|taken, outputs| {
         changed(taken, outputs, |outputs| {
             *outputs[GROUPS].size_mut() %= 65_536
         })
     }));
-    assert!(!many_pass(|taken, outputs| {
+    assert!(many_find(|taken, outputs| {
         match right(taken, outputs) {
             0 if taken.bytes(BYTES).len() > 65_536 => 3,
             answer => answer,
@@ -474,61 +471,42 @@ fn many_groups() {
     }));
 }
 
-/// Whether packages pass where this function reads them as bundles.
-fn packages_pass(library: Call) -> bool {
-    let entry = Entry {
-        refusals: &[Refusal::BytesMissing, Refusal::Tag, Refusal::SerialOrder],
-        library,
-        groups: || {
-            vec![
-                RIGHT,
-                groups::appended::<AsBundle>(),
-                groups::order::<AsBundle>(),
-            ]
-        },
-        ..PACKAGE_AS_BUNDLE
-    };
-    passes(&entry, None)
-}
-
 #[test]
 fn packages_as_bundles() {
-    assert!(packages_pass(right));
+    let order = groups::order::<AsBundle>();
+    let appended = groups::appended::<AsBundle>();
+    for group in [order, appended] {
+        assert!(!finds(group, PACKAGE_AS_BUNDLE, right));
+    }
     // The numbers of read package.
-    assert!(!packages_pass(|taken, outputs| {
+    assert!(finds(appended, PACKAGE_AS_BUNDLE, |taken, outputs| {
         let package = reference::read_package(taken.bytes(BYTES));
         match right(taken, outputs) {
             9 | 10 if package == Err(Refusal::BytesFollow) => 12,
             answer => answer,
         }
     }));
-    assert!(!packages_pass(|taken, outputs| {
+    assert!(finds(order, PACKAGE_AS_BUNDLE, |taken, outputs| {
         changed(taken, outputs, |outputs| *outputs[GROUPS].size_mut() = 0)
     }));
 }
 
 #[test]
 fn bundles_as_packages() {
-    fn bundles_pass(library: Call) -> bool {
-        let entry = Entry {
-            refusals: &[Refusal::BytesFollow],
-            table: None,
-            package: None,
-            library,
-            groups: || vec![BUNDLES],
-            ..READ_PACKAGE
-        };
-        passes(&entry, None)
-    }
-    assert!(bundles_pass(READ_PACKAGE.reference));
+    let entry = Entry {
+        package: None,
+        ..READ_PACKAGE
+    };
+    let bundles_find = |library| finds(BUNDLES, entry, library);
+    assert!(!bundles_find(READ_PACKAGE.reference));
     // Accepted with the first serial, and refused with 10.
-    assert!(!bundles_pass(|taken, outputs| {
+    assert!(bundles_find(|taken, outputs| {
         match (READ_PACKAGE.reference)(taken, outputs) {
             12 => 0,
             answer => answer,
         }
     }));
-    assert!(!bundles_pass(|taken, outputs| {
+    assert!(bundles_find(|taken, outputs| {
         match (READ_PACKAGE.reference)(taken, outputs) {
             12 => 10,
             answer => answer,

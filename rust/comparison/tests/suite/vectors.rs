@@ -3,6 +3,7 @@
 
 use comparison::case::Entry;
 use comparison::entries::bundles::join::JOIN_BUNDLES;
+use comparison::entries::bundles::look::LOOK_BEFORE_JOIN;
 use comparison::entries::bundles::read::READ_BUNDLE;
 use comparison::entries::{
     check, constraints, field, package_field, prove, rank, readers, values, write, ALL,
@@ -266,12 +267,20 @@ fn every_digit_of_a_package_altered() {
 }
 
 /// The kinds of parts of the file of bundles.
-const KINDS: [&str; 4] = ["case", "refused", "join", "join_refused"];
+const KINDS: [&str; 6] = [
+    "case",
+    "refused",
+    "join",
+    "join_refused",
+    "look",
+    "look_refused",
+];
 
-/// The first parts of each kind of the file of bundles, so many of each.
-fn some_bundles(counts: [usize; 4]) -> String {
+/// The first parts of each kind of the file of bundles, so many of each. There are
+/// as many looks as joins.
+fn some_bundles(counts: [usize; 6]) -> String {
     let whole = text("bundle.txt");
-    let mut parts: [Vec<String>; 4] = Default::default();
+    let mut parts: [Vec<String>; 6] = Default::default();
     let mut kind = 0;
     for line in whole.lines() {
         let first = line.split(' ').next();
@@ -291,7 +300,7 @@ fn some_bundles(counts: [usize; 4]) -> String {
 #[test]
 fn every_word_of_bundles_altered() {
     let name = "bundle.txt";
-    let content = some_bundles([6, 30, 6, 30]);
+    let content = some_bundles([6, 30, 6, 30, 6, 30]);
     assert_eq!(difference(name, &content), None);
     let mut kind = "";
     let mut words_altered = 0;
@@ -299,15 +308,16 @@ fn every_word_of_bundles_altered() {
         let (first, value) = line.split_once(' ').expect("a name and a value");
         if KINDS.contains(&first) {
             kind = first;
-            continue;
         }
-        // A call may be refused with other bytes and another output, and a
-        // bundle with another a has the same numbers.
+        // Names are free, but for those of looks. A call may be refused with other
+        // bytes and another output, and a bundle with another a has the same
+        // numbers. Another room may be long enough, or too short, too.
         let tells = match kind {
+            _ if first == kind => first.starts_with("look"),
             "refused" | "join_refused" => {
                 first == "answer" || first.ends_with("_length") && first != "out_length"
             }
-            _ => first != "bundle",
+            _ => first != "bundle" && !first.ends_with("room"),
         };
         if !tells {
             continue;
@@ -323,7 +333,7 @@ fn every_word_of_bundles_altered() {
 #[test]
 fn every_digit_of_a_joined_bundle_altered() {
     let name = "bundle.txt";
-    let content = some_bundles([1, 1, 3, 1]);
+    let content = some_bundles([1, 1, 3, 1, 3, 1]);
     let mut digits = 0;
     for (index, line) in content.lines().enumerate() {
         let Some(bytes) = line.strip_prefix("joined ") else {
@@ -342,17 +352,40 @@ fn every_digit_of_a_joined_bundle_altered() {
 }
 
 #[test]
+fn every_room_altered() {
+    let name = "bundle.txt";
+    let content = some_bundles([1, 1, 6, 1, 6, 1]);
+    let looks = content.find("\nlook ").expect("a look");
+    let first = content[..looks].lines().count();
+    let mut rooms = 0;
+    for (index, line) in content.lines().enumerate().skip(first) {
+        let other = match line.split(' ').next() {
+            Some("room") => "room 0",
+            Some("short_room") => "short_room 18446744073709551615",
+            Some("look_refused") => break,
+            _ => continue,
+        };
+        let found = difference(name, &with_line(&content, index, other));
+        assert!(found.is_some(), "line {}", index + 1);
+        rooms += 1;
+    }
+    assert!(rooms >= 12, "{rooms}");
+}
+
+#[test]
 fn other_parts_of_bundles() {
     let name = "bundle.txt";
-    let right = some_bundles([1; 4]);
+    let right = some_bundles([1; 6]);
     assert_eq!(difference(name, &right), None);
     // A kind that is missing, in another order, or of which a line is missing,
-    // is there twice, or has too few bytes.
+    // is there twice, or has too few bytes; a look too many.
     for kind in 0..KINDS.len() {
-        let mut counts = [1; 4];
+        let mut counts = [1; 6];
         counts[kind] = 0;
         assert!(difference(name, &some_bundles(counts)).is_some());
     }
+    assert!(difference(name, &some_bundles([1, 1, 1, 1, 2, 1])).is_some());
+    assert!(difference(name, &some_bundles([1, 1, 1, 1, 1, 2])).is_some());
     let lines: Vec<&str> = right.lines().collect();
     for index in 0..lines.len() {
         let mut without = lines.clone();
@@ -361,12 +394,13 @@ fn other_parts_of_bundles() {
         twice.insert(index, lines[index]);
         let mut shorter = lines.clone();
         shorter[index] = &lines[index][..lines[index].len() - 2];
-        for (list, bytes) in [(without, false), (twice, false), (shorter, true)] {
-            if bytes && lines[index].len() < 40 {
-                continue;
-            }
+        // The number of rooms is free.
+        let room = lines[index].starts_with("room") || lines[index].starts_with("short_room");
+        let bytes = lines[index].len() >= 40;
+        for (list, tells) in [(without, !room), (twice, true), (shorter, bytes)] {
             let other = list.join("\n") + "\n";
-            assert!(difference(name, &other).is_some(), "line {}", index + 1);
+            let found = difference(name, &other);
+            assert!(found.is_some() || !tells, "line {}", index + 1);
         }
     }
     let end = right.rfind("join_refused").expect("a refused join");
@@ -501,6 +535,8 @@ fn wrong_outputs() {
         changed!(JOIN_BUNDLES, "out"),
         changed!(JOIN_BUNDLES, "length"),
         changed!(JOIN_BUNDLES, "groups"),
+        changed!(LOOK_BEFORE_JOIN, "length"),
+        changed!(LOOK_BEFORE_JOIN, "groups"),
         changed!(readers::READ_PACKAGE, "n"),
         changed!(readers::READ_PACKAGE, "m"),
         changed!(readers::READ_PACKAGE, "serial"),

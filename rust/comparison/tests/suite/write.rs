@@ -1,7 +1,7 @@
 //! The groups of write package, packages that are read back and packages that are
 //! written again find wrong writers. Each stands in the place of the library.
 
-use crate::common::{passes, with_library};
+use crate::common::finds;
 use comparison::case::{Call, Entry, Group, Taken};
 use comparison::entries::faults::{one_fault, two_faults};
 use comparison::entries::files::fields::{serial_in_four, set_serial, set_target, walked};
@@ -19,52 +19,43 @@ use comparison::slices::{A, H, M, N, T, Y};
 use reference::package::{field_of, index_of, join, tag, WrittenField};
 use reference::Refusal;
 
-/// Whether write package passes with this function in the place of the library,
-/// where no call is refused.
-fn content_passes(library: Call) -> bool {
-    let groups = || vec![writing::BY_HAND, writing::SMALL_N, writing::BITS_OF_Y];
-    passes(&with_library(WRITE, library, groups), None)
+/// Whether packages whose bytes are written out find this function in the place of
+/// the library.
+fn by_hand_finds(library: Call) -> bool {
+    finds(writing::BY_HAND, WRITE, library)
 }
 
-/// The same, with outputs of all lengths.
-fn output_passes(library: Call) -> bool {
-    let groups = || vec![writing::BY_HAND, writing::OUTPUTS];
-    let entry = Entry {
-        refusals: &[Refusal::ShortOutput],
-        ..with_library(WRITE, library, groups)
-    };
-    passes(&entry, None)
+/// Whether random packages of small sizes do.
+fn small_n_finds(library: Call) -> bool {
+    finds(writing::SMALL_N, WRITE, library)
 }
 
-/// The same, with one fault and with two.
-fn faults_pass(library: Call) -> bool {
-    let groups = || {
-        vec![
-            writing::SMALL_N,
-            writing::OUTPUTS,
-            one_fault::<WritePackage>(),
-            two_faults::<WritePackage>(),
-        ]
-    };
-    let entry = Entry {
-        refusals: WRITE.refusals,
-        ..with_library(WRITE, library, groups)
-    };
-    passes(&entry, None)
+/// Whether packages with each bit of y do.
+fn bits_of_y_find(library: Call) -> bool {
+    finds(writing::BITS_OF_Y, WRITE, library)
 }
 
-/// Whether packages that this function writes are read back.
-macro_rules! read_back_passes {
+/// Whether outputs of all lengths do.
+fn outputs_find(library: Call) -> bool {
+    finds(writing::OUTPUTS, WRITE, library)
+}
+
+/// Whether one fault of a call does.
+fn one_fault_finds(library: Call) -> bool {
+    finds(one_fault::<WritePackage>(), WRITE, library)
+}
+
+/// Whether two faults of a call do.
+fn two_faults_find(library: Call) -> bool {
+    finds(two_faults::<WritePackage>(), WRITE, library)
+}
+
+/// Whether packages that this function writes are not read back.
+macro_rules! read_back_finds {
     ($write:expr) => {
-        passes(
-            &Entry {
-                library: |taken, outputs| written_and_read($write, taken, outputs),
-                least: Vec::new,
-                groups: || vec![read_back::SMALL_N, read_back::SERIALS],
-                ..READ_BACK
-            },
-            None,
-        )
+        finds(read_back::SERIALS, READ_BACK, |taken, outputs| {
+            written_and_read($write, taken, outputs)
+        })
     };
 }
 
@@ -80,23 +71,14 @@ const ACCEPTED: Group = Group::new("accepted", |generator, each| {
     });
 });
 
-/// Whether the packages of these groups pass where this function writes them
-/// again.
-fn passes_again(writer: Call, groups: fn() -> Vec<Group>) -> bool {
-    let mut run = Run::new(1, None).writing_by(writer);
-    run.entry(&Entry {
+/// Whether accepted packages find this function where it writes them again.
+fn again_finds(writer: Call) -> bool {
+    let read = Entry {
         library: READ_PACKAGE.reference,
-        refusals: &[],
         table: None,
-        groups,
         ..READ_PACKAGE
-    });
-    run.finish()
-}
-
-/// The same with accepted packages.
-fn again_passes(writer: Call) -> bool {
-    passes_again(writer, || vec![ACCEPTED])
+    };
+    Run::new(1, None).writing_by(writer).finds(&read, &ACCEPTED)
 }
 
 /// Writes the bytes in the place of what the reference wrote; 13 when the output
@@ -136,50 +118,57 @@ macro_rules! with_fields {
     };
 }
 
-/// Whether a writer of other fields passes: by itself, where its packages are read
+/// Whether a writer of other fields is found: by itself, where its packages are read
 /// back, and where accepted packages are written again.
-macro_rules! all_pass {
+macro_rules! all_find {
     ($change:expr) => {
         [
-            content_passes(with_fields!($change)),
-            read_back_passes!(with_fields!($change)),
-            again_passes(with_fields!($change)),
+            by_hand_finds(with_fields!($change)),
+            read_back_finds!(with_fields!($change)),
+            again_finds(with_fields!($change)),
         ]
     };
 }
 
 #[test]
 fn no_fault() {
-    assert!(content_passes(WRITE.reference));
-    assert!(output_passes(WRITE.reference));
-    assert!(faults_pass(WRITE.reference));
-    assert_eq!(all_pass!(|_, _| {}), [true; 3]);
+    for finds in [
+        by_hand_finds,
+        small_n_finds,
+        bits_of_y_find,
+        outputs_find,
+        one_fault_finds,
+        two_faults_find,
+    ] {
+        assert!(!finds(WRITE.reference));
+    }
+    assert_eq!(all_find!(|_, _| {}), [false; 3]);
 }
 
 #[test]
 fn y_of_zeros_written() {
-    let found = all_pass!(|taken, fields| {
+    let found = all_find!(|taken, fields| {
         let y = taken.words(Y);
         if y.iter().all(|&word| word == 0) {
             set_target(fields, y);
         }
     });
-    assert_eq!(found, [false; 3]);
+    assert_eq!(found, [true; 3]);
 }
 
 #[test]
 fn y_left_out() {
-    let found = all_pass!(|_, fields| fields.retain(|field| field.tag != tag::Y));
-    assert_eq!(found, [false; 3]);
+    let found = all_find!(|_, fields| fields.retain(|field| field.tag != tag::Y));
+    assert_eq!(found, [true; 3]);
     // Where its first element is zero, where its last is, and where the lower
     // bytes are.
-    assert!(!content_passes(with_fields!(|taken, fields| {
+    assert!(by_hand_finds(with_fields!(|taken, fields| {
         fields.retain(|field| field.tag != tag::Y || taken.words(Y)[0] != 0);
     })));
-    assert!(!content_passes(with_fields!(|taken, fields| {
+    assert!(small_n_finds(with_fields!(|taken, fields| {
         fields.retain(|field| field.tag != tag::Y || taken.words(Y).last() != Some(&0));
     })));
-    assert!(!content_passes(with_fields!(|taken, fields| {
+    assert!(by_hand_finds(with_fields!(|taken, fields| {
         let lower = taken.words(Y).iter().any(|&word| word % 256 != 0);
         fields.retain(|field| field.tag != tag::Y || lower);
     })));
@@ -187,27 +176,27 @@ fn y_left_out() {
 
 #[test]
 fn serial_in_the_other_length() {
-    let found = all_pass!(|taken, fields| {
+    let found = all_find!(|taken, fields| {
         if serial_of(taken) == 65_535 {
             set_serial(fields, serial_in_four(u16::MAX));
         }
     });
-    assert_eq!(found, [false; 3]);
+    assert_eq!(found, [true; 3]);
     // 65536 in two bytes.
-    let found = all_pass!(|taken, fields| {
+    let found = all_find!(|taken, fields| {
         if serial_of(taken) == 65_536 {
             set_serial(fields, WrittenField::new(tag::SERIAL, vec![0, 0]));
         }
     });
-    assert_eq!(found, [false; 3]);
+    assert_eq!(found, [true; 3]);
 }
 
 #[test]
 fn serial_in_another_order() {
-    let found = all_pass!(|_, fields| field_of(fields, tag::SERIAL).content.reverse());
-    assert_eq!(found, [false; 3]);
+    let found = all_find!(|_, fields| field_of(fields, tag::SERIAL).content.reverse());
+    assert_eq!(found, [true; 3]);
     // Where it has four bytes alone.
-    assert!(!content_passes(with_fields!(|_, fields| {
+    assert!(by_hand_finds(with_fields!(|_, fields| {
         let content = &mut field_of(fields, tag::SERIAL).content;
         if content.len() == 4 {
             content.swap(1, 2);
@@ -217,30 +206,30 @@ fn serial_in_another_order() {
 
 #[test]
 fn fields_exchanged() {
-    let found = all_pass!(|_, fields| {
+    let found = all_find!(|_, fields| {
         let t = index_of(fields, tag::T);
         fields.swap(t, t + 1);
     });
-    assert_eq!(found, [false; 3]);
+    assert_eq!(found, [true; 3]);
     // y and x.
-    let found = all_pass!(|_, fields| {
+    let found = all_find!(|_, fields| {
         let x = index_of(fields, tag::X);
         if fields[x + 1].tag == tag::Y {
             fields.swap(x, x + 1);
         }
     });
-    assert_eq!(found, [false; 3]);
+    assert_eq!(found, [true; 3]);
 }
 
 #[test]
 fn words_in_another_order() {
     for found in [
-        all_pass!(|_, fields| exchange(fields, tag::H)),
-        all_pass!(|_, fields| exchange(fields, tag::X)),
-        all_pass!(|_, fields| exchange(fields, tag::Y)),
-        all_pass!(|_, fields| exchange(fields, tag::A)),
+        all_find!(|_, fields| exchange(fields, tag::H)),
+        all_find!(|_, fields| exchange(fields, tag::X)),
+        all_find!(|_, fields| exchange(fields, tag::Y)),
+        all_find!(|_, fields| exchange(fields, tag::A)),
     ] {
-        assert_eq!(found, [false; 3]);
+        assert_eq!(found, [true; 3]);
     }
 }
 
@@ -253,8 +242,8 @@ fn exchange(fields: &mut [WrittenField], tag: u8) {
 
 #[test]
 fn sizes_exchanged() {
-    let found = all_pass!(|_, fields| fields[0].content.reverse());
-    assert_eq!(found, [false; 3]);
+    let found = all_find!(|_, fields| fields[0].content.reverse());
+    assert_eq!(found, [true; 3]);
 }
 
 /// The reference's answer, and then a change of the outputs of a done call.
@@ -270,17 +259,17 @@ fn changed(taken: &Taken, outputs: &mut Named<Lent>, change: fn(&mut [u8], &mut 
 #[test]
 fn bytes_beyond_the_length_cleared() {
     let clear: Call = |taken, outputs| changed(taken, outputs, |out, len| out[*len..].fill(0));
-    assert!(!output_passes(clear));
-    assert!(!again_passes(clear));
+    assert!(outputs_find(clear));
+    assert!(again_finds(clear));
     // The next one alone, and the last.
-    assert!(!output_passes(|taken, outputs| {
+    assert!(outputs_find(|taken, outputs| {
         changed(taken, outputs, |out, len| {
             if let Some(next) = out.get_mut(*len) {
                 *next = 0;
             }
         })
     }));
-    assert!(!output_passes(|taken, outputs| {
+    assert!(outputs_find(|taken, outputs| {
         changed(taken, outputs, |out, len| {
             if out.len() > *len {
                 out[out.len() - 1] = 0;
@@ -292,19 +281,19 @@ fn bytes_beyond_the_length_cleared() {
 #[test]
 fn another_length() {
     let shorter: Call = |taken, outputs| changed(taken, outputs, |_, len| *len -= 1);
-    assert!(!output_passes(shorter));
-    assert!(!again_passes(shorter));
-    assert!(!read_back_passes!(|taken, outputs| changed(
+    assert!(outputs_find(shorter));
+    assert!(again_finds(shorter));
+    assert!(read_back_finds!(|taken, outputs| changed(
         taken,
         outputs,
         |_, len| *len -= 1
     )));
     // That of the output.
-    assert!(!output_passes(|taken, outputs| {
+    assert!(outputs_find(|taken, outputs| {
         changed(taken, outputs, |out, len| *len = out.len())
     }));
     // Not written.
-    assert!(!output_passes(|taken, outputs| {
+    assert!(outputs_find(|taken, outputs| {
         let before = outputs[LENGTH].clone();
         let answer = (WRITE.reference)(taken, outputs);
         outputs[LENGTH] = before;
@@ -314,7 +303,7 @@ fn another_length() {
 
 #[test]
 fn a_byte_of_the_largest_is_wrong() {
-    assert!(!content_passes(|taken, outputs| {
+    assert!(bits_of_y_find(|taken, outputs| {
         let answer = (WRITE.reference)(taken, outputs);
         if answer == 0 && (taken.numbers[N], taken.numbers[M]) == (64, 63) {
             let last = *outputs[LENGTH].size_mut() - 1;
@@ -345,9 +334,9 @@ fn refused_where(
 #[test]
 fn longer_outputs_refused() {
     let three: Call = |taken, outputs| refused_where(taken, outputs, 3, |out, len| out > len);
-    assert!(!output_passes(three));
-    assert!(!again_passes(three));
-    assert!(!output_passes(|taken, outputs| {
+    assert!(outputs_find(three));
+    assert!(again_finds(three));
+    assert!(outputs_find(|taken, outputs| {
         refused_where(taken, outputs, 13, |out, len| out > len + 65_000)
     }));
 }
@@ -355,14 +344,14 @@ fn longer_outputs_refused() {
 #[test]
 fn exact_outputs_refused() {
     let short: Call = |taken, outputs| refused_where(taken, outputs, 13, |out, len| out == len);
-    assert!(!output_passes(short));
-    assert!(!again_passes(short));
+    assert!(outputs_find(short));
+    assert!(again_finds(short));
 }
 
 #[test]
 fn room_for_the_longest_form_asked_for() {
     // y and four bytes of the serial have to fit, written or not.
-    assert!(!output_passes(|taken, outputs| {
+    assert!(outputs_find(|taken, outputs| {
         let longest = package_length(taken) + 3 + 2 * taken.words(Y).len() + 2;
         if outputs[OUT].len() < longest && (WRITE.reference)(taken, &mut outputs.clone()) == 0 {
             return 13;
@@ -374,14 +363,14 @@ fn room_for_the_longest_form_asked_for() {
 #[test]
 fn refusals_of_the_readers() {
     // 14 for a y of zeros, 19 for a serial below 65536.
-    assert!(!content_passes(|taken, outputs| {
+    assert!(by_hand_finds(|taken, outputs| {
         let zero = taken.words(Y).iter().all(|&word| word == 0);
         match (WRITE.reference)(taken, &mut outputs.clone()) {
             0 if zero => 14,
             _ => (WRITE.reference)(taken, outputs),
         }
     }));
-    assert!(!content_passes(|taken, outputs| {
+    assert!(by_hand_finds(|taken, outputs| {
         match (WRITE.reference)(taken, &mut outputs.clone()) {
             0 if taken.numbers[SERIAL] < 65_536 => 19,
             _ => (WRITE.reference)(taken, outputs),
@@ -401,17 +390,17 @@ fn short_first(answer: u32, taken: &Taken, outputs: &mut Named<Lent>) -> u32 {
 
 #[test]
 fn thirteen_before_others() {
-    assert!(!faults_pass(|taken, outputs| short_first(
+    assert!(two_faults_find(|taken, outputs| short_first(
         6, taken, outputs
     )));
-    assert!(!faults_pass(|taken, outputs| short_first(
+    assert!(two_faults_find(|taken, outputs| short_first(
         15, taken, outputs
     )));
-    assert!(!faults_pass(|taken, outputs| short_first(
+    assert!(two_faults_find(|taken, outputs| short_first(
         3, taken, outputs
     )));
     // 6 where no byte of the output is lent alone.
-    assert!(!faults_pass(|taken, outputs| {
+    assert!(two_faults_find(|taken, outputs| {
         match (WRITE.reference)(taken, outputs) {
             6 if outputs[OUT].is_empty() => 13,
             answer => answer,
@@ -422,7 +411,7 @@ fn thirteen_before_others() {
 #[test]
 fn refusals_in_another_order() {
     // 6 before 5.
-    assert!(!faults_pass(|taken, outputs| {
+    assert!(two_faults_find(|taken, outputs| {
         let above = taken.words(A).iter().any(|&word| word > 2047);
         match (WRITE.reference)(taken, outputs) {
             5 if above => 6,
@@ -430,7 +419,7 @@ fn refusals_in_another_order() {
         }
     }));
     // 5 before 15.
-    assert!(!faults_pass(|taken, outputs| {
+    assert!(two_faults_find(|taken, outputs| {
         let above = taken.bytes(T).iter().any(|&byte| byte > 1);
         match (WRITE.reference)(taken, outputs) {
             15 if above => 5,
@@ -442,16 +431,18 @@ fn refusals_in_another_order() {
 #[test]
 fn a_refusal_left_out() {
     // 4 for y alone, 5, 6 and 15.
-    assert!(!faults_pass(|taken, outputs| {
+    assert!(one_fault_finds(|taken, outputs| {
         let above = |name| taken.words(name).iter().any(|&word| word > 2047);
         match (WRITE.reference)(taken, outputs) {
             4 if above(Y) && !above(H) => 0,
             answer => answer,
         }
     }));
-    assert!(!faults_pass(|taken, outputs| without(5, taken, outputs)));
-    assert!(!faults_pass(|taken, outputs| without(6, taken, outputs)));
-    assert!(!faults_pass(|taken, outputs| without(15, taken, outputs)));
+    assert!(one_fault_finds(|taken, outputs| without(5, taken, outputs)));
+    assert!(one_fault_finds(|taken, outputs| without(6, taken, outputs)));
+    assert!(one_fault_finds(|taken, outputs| without(
+        15, taken, outputs
+    )));
 }
 
 /// The reference's answer, done in the place of this refusal.
@@ -465,14 +456,14 @@ fn without(refusal: u32, taken: &Taken, outputs: &mut Named<Lent>) -> u32 {
 #[test]
 fn an_output_changed_on_a_refusal() {
     // The length that is needed.
-    assert!(!faults_pass(|taken, outputs| {
+    assert!(one_fault_finds(|taken, outputs| {
         let answer = (WRITE.reference)(taken, outputs);
         if answer == 13 {
             *outputs[LENGTH].size_mut() = package_length(taken);
         }
         answer
     }));
-    assert!(!faults_pass(|taken, outputs| {
+    assert!(one_fault_finds(|taken, outputs| {
         let answer = (WRITE.reference)(taken, outputs);
         if answer == 3 {
             *outputs[LENGTH].size_mut() = 0;
@@ -480,7 +471,7 @@ fn an_output_changed_on_a_refusal() {
         answer
     }));
     // As much of the package as there is room for.
-    assert!(!faults_pass(|taken, outputs| {
+    assert!(one_fault_finds(|taken, outputs| {
         let answer = (WRITE.reference)(taken, outputs);
         if answer == 13 && outputs[OUT].len() > 5 {
             let head = [1, 0, 2, taken.numbers[N] as u8, taken.numbers[M] as u8];
@@ -489,7 +480,7 @@ fn an_output_changed_on_a_refusal() {
         answer
     }));
     // The output cleared before 6.
-    assert!(!faults_pass(|taken, outputs| {
+    assert!(one_fault_finds(|taken, outputs| {
         let answer = (WRITE.reference)(taken, outputs);
         if answer == 6 {
             outputs[OUT].bytes_mut().fill(0);
@@ -501,7 +492,7 @@ fn an_output_changed_on_a_refusal() {
 #[test]
 fn a_short_output_written() {
     // All but the last byte.
-    assert!(!output_passes(|taken, outputs| {
+    assert!(outputs_find(|taken, outputs| {
         let len = outputs[OUT].len();
         if len + 1 != package_length(taken) {
             return (WRITE.reference)(taken, outputs);

@@ -39,7 +39,8 @@ pub struct BundleContents {
     pub groups: usize,
 }
 
-/// What the join of bundles answers: "the length and the number of groups".
+/// What the join of bundles and the look before it answer: "the length and the
+/// number of groups".
 #[derive(Clone, Copy, Debug, PartialEq, Eq)]
 pub struct Joined {
     /// The bytes of the joined bundle.

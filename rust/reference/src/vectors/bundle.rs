@@ -1,17 +1,22 @@
-//! The file `bundle.txt`: bundles that are read and joined, and calls of the
-//! entries read bundle and join bundles that are refused.
+//! The file `bundle.txt`: bundles that are read and joined, calls of the entries
+//! read bundle and join bundles that are refused, and the looks before these joins.
 
 use super::text::file_lines;
-use crate::entries::join_bundles;
+use crate::entries::{join_bundles, look_before_join};
 use crate::package::{bundle_bytes, read_bundle, Group, Joined};
 use crate::refusal::Refusal;
 use crate::samples::{bundle_faults, BundleFault, Generator, Material, Sample, WrittenBundle};
+use std::collections::BTreeSet;
 
 /// The name of the file.
 pub const NAME: &str = "bundle.txt";
 
 /// What the outputs hold before a call.
 const BEFORE: u8 = 0xff;
+
+/// Rooms beyond every output: the least of more than 32 bits, the least that is
+/// negative as a signed number of 64 bits, and the largest.
+const BEYOND: [usize; 3] = [1 << 32, 1 << 63, usize::MAX];
 
 /// The lines of a slice of bytes: its length and its bytes.
 fn slice_lines(name: &str, bytes: &[u8]) -> String {
@@ -50,34 +55,115 @@ fn refusal_of(length: usize, bundles: [&[u8]; 2]) -> Refusal {
     answer.expect_err("the call is refused")
 }
 
-/// The lines of two bundles that are joined, in a longer output.
-fn lines_of_join(name: &str, bundles: [&[u8]; 2]) -> String {
-    let [first, second] = bundles;
-    let (answer, mut out) = joined_to(first.len() + second.len(), bundles);
-    let Joined { length, groups } = answer.expect("no refusal applies");
-    let rest = out.split_off(length);
-    assert!(rest.iter().all(|&byte| byte == BEFORE));
-    let short = refusal_of(length - 1, bundles);
-    let mut text = format!("join {name}\n");
-    text += &slice_lines("first", first);
-    text += &slice_lines("second", second);
-    text += &format!("groups {groups}\n");
-    text += &slice_lines("joined", &out);
-    text + &format!("short_answer {}\n", short.number())
+/// Two bundles that are joined, with their name.
+struct Join {
+    name: String,
+    bundles: [Vec<u8>; 2],
 }
 
-/// The lines of two bundles whose join is refused, with the length of the output.
-fn lines_of_join_refused(
-    name: &str,
-    bundles: [&[u8]; 2],
+impl Join {
+    /// The bundles.
+    fn bundles(&self) -> [&[u8]; 2] {
+        self.bundles.each_ref().map(|bytes| &bytes[..])
+    }
+
+    /// The length of both.
+    fn most(&self) -> usize {
+        self.bundles.iter().map(Vec::len).sum()
+    }
+
+    /// The lines of the bundles.
+    fn slices(&self) -> String {
+        let [first, second] = self.bundles();
+        slice_lines("first", first) + &slice_lines("second", second)
+    }
+
+    /// What they are together, and the length and the number of groups, in a longer
+    /// output.
+    fn joined(&self) -> (Vec<u8>, Joined) {
+        let (answer, mut out) = joined_to(self.most(), self.bundles());
+        let joined = answer.expect("no refusal applies");
+        let rest = out.split_off(joined.length);
+        assert!(rest.iter().all(|&byte| byte == BEFORE));
+        (out, joined)
+    }
+
+    /// The lines of the join.
+    fn lines(&self) -> String {
+        let (bytes, Joined { length, groups }) = self.joined();
+        let short = refusal_of(length - 1, self.bundles());
+        let mut text = format!("join {}\n", self.name);
+        text += &self.slices();
+        text += &format!("groups {groups}\n");
+        text += &slice_lines("joined", &bytes);
+        text + &format!("short_answer {}\n", short.number())
+    }
+
+    /// The lines of these rooms, in rising order, and what the look answers for
+    /// every one of them.
+    fn looked(&self, name: &str, rooms: &[usize]) -> (String, Result<Joined, Refusal>) {
+        let [first, second] = self.bundles();
+        let rooms: BTreeSet<usize> = rooms.iter().copied().collect();
+        let look = |&room| look_before_join(first, second, room);
+        let answers: Vec<_> = rooms.iter().map(look).collect();
+        assert!(answers.iter().all(|answer| *answer == answers[0]));
+        let lines = rooms.iter().map(|room| format!("{name} {room}\n"));
+        (lines.collect(), answers[0])
+    }
+
+    /// The lines of the look.
+    fn look_lines(&self) -> String {
+        let (_, Joined { length, .. }) = self.joined();
+        let rooms = [&[length, length + 1, self.most()][..], &BEYOND].concat();
+        let (rooms, answer) = self.looked("room", &rooms);
+        let Joined { length, groups } = answer.expect("no refusal applies");
+        let mut text = format!("look {}\n{rooms}", self.name);
+        text += &format!("length {length}\ngroups {groups}\n");
+        let (rooms, answer) = self.looked("short_room", &[0, length - 1]);
+        let short = answer.expect_err("the rooms are too short");
+        text + &format!("{rooms}short_answer {}\n", short.number())
+    }
+}
+
+/// Two bundles whose join is refused.
+struct JoinRefused {
+    join: Join,
+    /// The length of the output.
     length: usize,
     refusal: Refusal,
-) -> String {
-    assert_eq!(refusal_of(length, bundles), refusal, "{name}");
-    let mut text = format!("join_refused {name}\n");
-    text += &slice_lines("first", bundles[0]);
-    text += &slice_lines("second", bundles[1]);
-    text + &format!("out_length {length}\nanswer {}\n", refusal.number())
+}
+
+impl JoinRefused {
+    /// The lines of the join.
+    fn lines(&self) -> String {
+        let JoinRefused {
+            join,
+            length,
+            refusal,
+        } = self;
+        let name = &join.name;
+        assert_eq!(refusal_of(*length, join.bundles()), *refusal, "{name}");
+        let mut text = format!("join_refused {name}\n");
+        text += &join.slices();
+        text + &format!("out_length {length}\nanswer {}\n", refusal.number())
+    }
+
+    /// The lines of the look: every room gets a refusal other than 13, and every
+    /// room below the joined length 13.
+    fn look_lines(&self) -> String {
+        let join = &self.join;
+        let most = if self.refusal == Refusal::ShortOutput {
+            vec![join.joined().1.length - 1]
+        } else {
+            vec![join.most(), usize::MAX]
+        };
+        let rooms = [&[0, self.length], &most[..]].concat();
+        let (rooms, answer) = join.looked("room", &rooms);
+        let name = &join.name;
+        assert_eq!(answer, Err(self.refusal), "{name}");
+        let number = self.refusal.number();
+        format!("look_refused {name}\n{rooms}answer {number}\n")
+    }
 }
 
 /// The group of a key with this serial: the same for each call.
@@ -333,28 +419,30 @@ const JOINED_SIZES: [(usize, usize, bool); 5] = [
 
 /// The bundles that are joined: of key A, every second one with a target, and of
 /// other sizes.
-fn join_lines() -> String {
-    let mut text = String::new();
+fn joins() -> Vec<Join> {
+    let mut list = Vec::new();
     let keys = keys_a();
     for (place, [first, second]) in JOINED.into_iter().enumerate() {
         let (name, sample) = &keys[place % 2];
-        let name = format!("{name}_{}_and_{}", listed(first), listed(second));
-        let bundles = [first, second].map(|serials| bundle(sample, serials));
-        text += &lines_of_join(&name, bundles.each_ref().map(|bytes| &bytes[..]));
+        list.push(Join {
+            name: format!("{name}_{}_and_{}", listed(first), listed(second)),
+            bundles: [first, second].map(|serials| bundle(sample, serials)),
+        });
     }
     for (n, m, target) in JOINED_SIZES {
         let sample = key(n, m, target);
-        let bundles = [[7, 65_536], [8, 65_536]].map(|serials| bundle(&sample, &serials));
-        let bundles = bundles.each_ref().map(|bytes| &bytes[..]);
-        text += &lines_of_join(&name_of(&sample), bundles);
+        list.push(Join {
+            name: name_of(&sample),
+            bundles: [[7, 65_536], [8, 65_536]].map(|serials| bundle(&sample, &serials)),
+        });
     }
-    text
+    list
 }
 
 /// Calls of the join that are refused.
 struct Refused {
-    /// Their lines.
-    text: String,
+    /// The calls.
+    list: Vec<JoinRefused>,
     /// Two bundles of key A with y = 5 that are joined without a refusal.
     bundles: [Vec<u8>; 2],
     /// The length of the joined bundle.
@@ -368,7 +456,7 @@ impl Refused {
         let serials: [&[u32]; 3] = [&[7, 65_536], &[9, 65_536], &[7, 9, 65_536]];
         let [first, second, joined] = serials.map(|serials| bundle(&sample, serials));
         Refused {
-            text: String::new(),
+            list: Vec::new(),
             bundles: [first, second],
             length: joined.len(),
         }
@@ -376,7 +464,15 @@ impl Refused {
 
     /// Adds a call with these bundles and an output of this length.
     fn one(&mut self, name: &str, bundles: [&[u8]; 2], length: usize, refusal: Refusal) {
-        self.text += &lines_of_join_refused(name, bundles, length, refusal);
+        let join = Join {
+            name: name.to_string(),
+            bundles: bundles.map(<[u8]>::to_vec),
+        };
+        self.list.push(JoinRefused {
+            join,
+            length,
+            refusal,
+        });
     }
 
     /// Adds two calls, with this bundle as the first and as the second, and an
@@ -474,22 +570,35 @@ impl Refused {
         let name = format!("itself_out_{length}");
         self.one(&name, [&first, &first], length, Refusal::ShortOutput);
     }
+
+    /// All calls.
+    fn all() -> Vec<JoinRefused> {
+        let mut refused = Refused::new();
+        refused.of_reader();
+        refused.keys();
+        refused.groups();
+        refused.outputs();
+        refused.list
+    }
+}
+
+/// The lines of all members of a list.
+fn all_lines<T>(list: &[T], lines: fn(&T) -> String) -> String {
+    list.iter().map(lines).collect()
 }
 
 /// The file.
 pub fn text() -> String {
-    let mut refused = Refused::new();
-    refused.of_reader();
-    refused.keys();
-    refused.groups();
-    refused.outputs();
+    let (joins, refused) = (joins(), Refused::all());
     let parts = [
         case_lines(),
         fault_lines(),
         order_lines(),
         end_lines(),
-        join_lines(),
-        refused.text,
+        all_lines(&joins, Join::lines),
+        all_lines(&refused, JoinRefused::lines),
+        all_lines(&joins, Join::look_lines),
+        all_lines(&refused, JoinRefused::look_lines),
     ];
     parts.concat()
 }

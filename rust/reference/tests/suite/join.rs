@@ -1,12 +1,14 @@
-//! The join of bundles: bundles by hand, a second join, the room of the output,
-//! and every refusal in order.
+//! The join of bundles and the look before it: bundles by hand, a second join, the
+//! room of the output, and every refusal in order.
 
 use crate::bundles::{
     bytes_of_all, groups_of, key_of, number_of, sizes_of, GROUP_65536, GROUP_7, KEY_A,
 };
 use reference::package::{bundle_bytes, Group};
 use reference::samples::{bundle_faults, BundleFault, Generator, Sample, WrittenBundle};
-use reference::{join_bundles, read_bundle, Bundle, BundleContents, Joined, Refusal};
+use reference::{
+    join_bundles, look_before_join, read_bundle, Bundle, BundleContents, Joined, Refusal,
+};
 use std::collections::{BTreeMap, BTreeSet};
 
 /// What an output holds before a call.
@@ -14,12 +16,21 @@ fn before(length: usize) -> Vec<u8> {
     (0..length).map(|i| 0xc0 ^ i as u8).collect()
 }
 
-/// What the entry answers for an output of this length, and the output
-/// afterwards.
+/// What the entry answers for an output of this length, and so does the look, and
+/// the output afterwards.
 fn joined_to(length: usize, first: &[u8], second: &[u8]) -> (Result<Joined, Refusal>, Vec<u8>) {
     let mut out = before(length);
     let answer = join_bundles(first, second, &mut out);
+    assert_eq!(look_before_join(first, second, length), answer, "{length}");
     (answer, out)
+}
+
+/// The joined length and the number of groups that the look answers for this room,
+/// or the number of the refusal.
+fn looked(first: &[u8], second: &[u8], room: usize) -> Result<(usize, usize), u32> {
+    let answer = look_before_join(first, second, room);
+    let numbers = |Joined { length, groups }| (length, groups);
+    answer.map(numbers).map_err(Refusal::number)
 }
 
 /// The joined bundle and its number of groups, or the number of the refusal, where
@@ -74,6 +85,85 @@ fn bundles_by_hand() {
         assert_eq!(joined(&one, &differing), Err(22));
         assert_eq!(joined(&differing, &both), Err(22));
         assert_eq!(joined(&differing, &other).map(|(_, groups)| groups), Ok(2));
+    }
+}
+
+/// Rooms far beyond both bundles: around the numbers of 31, 32 and 63 bits, and the
+/// largest.
+const BEYOND: [usize; 8] = [
+    (1 << 31) - 1,
+    1 << 31,
+    (1 << 32) - 1,
+    1 << 32,
+    (1 << 63) - 1,
+    1 << 63,
+    usize::MAX - 1,
+    usize::MAX,
+];
+
+/// Lengths by hand: the key has 19 bytes, a target 5 more, and a group 37, or 39
+/// where the serial takes four.
+#[test]
+fn looks_by_hand() {
+    let y = "04 0002 0005";
+    let one = bytes_of_all(&[KEY_A, GROUP_7]);
+    let other = bytes_of_all(&[KEY_A, GROUP_65536]);
+    let both = bytes_of_all(&[KEY_A, GROUP_7, GROUP_65536]);
+    let target_one = bytes_of_all(&[KEY_A, y, GROUP_7]);
+    let target_both = bytes_of_all(&[KEY_A, y, GROUP_7, GROUP_65536]);
+    for (first, second, length, groups) in [
+        (&one, &other, 19 + 37 + 39, 2),
+        (&other, &one, 19 + 37 + 39, 2),
+        (&one, &one, 19 + 37, 1),
+        (&other, &other, 19 + 39, 1),
+        (&both, &one, 19 + 37 + 39, 2),
+        (&other, &both, 19 + 37 + 39, 2),
+        (&target_one, &target_both, 24 + 37 + 39, 2),
+        (&target_one, &target_one, 24 + 37, 1),
+    ] {
+        let most = first.len() + second.len();
+        for room in (length..most + 2).chain(BEYOND) {
+            let answer = looked(first, second, room);
+            assert_eq!(answer, Ok((length, groups)), "{room}");
+        }
+        for room in 0..length {
+            assert_eq!(looked(first, second, room), Err(13), "{room}");
+        }
+    }
+}
+
+/// Refusals by hand, the same for every room: the first bundle's before the
+/// second's, both before 21, and 21 before 22 and 13.
+#[test]
+fn refused_looks_by_hand() {
+    let (y, other_7) = (
+        "04 0002 0005",
+        "05 0002 0007  06 0002 0001  07 0018 0005 0..",
+    );
+    let one = bytes_of_all(&[KEY_A, GROUP_7]);
+    let other_t = bytes_of_all(&[KEY_A, other_7]);
+    let target = bytes_of_all(&[KEY_A, y, GROUP_7]);
+    let target_other_t = bytes_of_all(&[KEY_A, y, other_7]);
+    let twice = bytes_of_all(&[KEY_A, GROUP_7, GROUP_7]);
+    let wrong_tag = bytes_of_all(&[KEY_A, GROUP_7, KEY_A]);
+    for (first, second, number) in [
+        (&vec![], &twice, 9),
+        (&twice, &vec![], 20),
+        (&twice, &wrong_tag, 20),
+        (&wrong_tag, &twice, 10),
+        (&one, &vec![], 9),
+        (&target, &twice, 20),
+        (&twice, &target, 20),
+        (&one, &target, 21),
+        (&target, &one, 21),
+        (&one, &target_other_t, 21),
+        (&one, &other_t, 22),
+        (&other_t, &one, 22),
+    ] {
+        let most = first.len() + second.len();
+        for room in (0..most + 2).chain(BEYOND) {
+            assert_eq!(looked(first, second, room), Err(number), "{room}");
+        }
     }
 }
 
@@ -287,6 +377,11 @@ impl Call {
         }
         answer.map_err(Refusal::number)
     }
+
+    /// What the look answers for this room.
+    fn looked(&self, room: usize) -> Result<(usize, usize), u32> {
+        looked(&self.first.bytes(), &self.second.bytes(), room)
+    }
 }
 
 /// What a fault does to a call.
@@ -390,7 +485,8 @@ fn calls() -> [Call; 2] {
     [(2, 1, true), (3, 2, false)].map(|(n, m, target)| Call::new(n, m, target, generator))
 }
 
-/// Each fault, also where the output is longer.
+/// Each fault, also where the output is longer, and the look for the least and the
+/// largest room.
 #[test]
 fn every_fault() {
     let mut seen = BTreeSet::new();
@@ -406,9 +502,14 @@ fn every_fault() {
             let mut wrong = call.clone();
             change(&mut wrong);
             assert_eq!(wrong.answer(), Err(number), "{name}");
-            if number != 13 {
+            if number == 13 {
+                assert_eq!(wrong.looked(usize::MAX), Ok((length, 3)), "{name}");
+            } else {
                 wrong.room *= 2;
                 assert_eq!(wrong.answer(), Err(number), "{name}");
+                for room in [0, usize::MAX] {
+                    assert_eq!(wrong.looked(room), Err(number), "{name}");
+                }
             }
             seen.insert(number);
         }

@@ -166,17 +166,29 @@ impl Text {
     }
 }
 
-/// The parts of a file, each from a line `case`, `refused`, `join` or
-/// `join_refused` to the next one, with that line.
+/// The kinds of parts, in the order of the file `bundle.txt`, which has all of them.
+const KINDS: [&str; 6] = [
+    "case",
+    "refused",
+    "join",
+    "join_refused",
+    "look",
+    "look_refused",
+];
+
+/// The place of the kind of a part among all kinds, by its first line.
+fn kind_of(line: &str) -> Option<usize> {
+    let first = line.split(' ').next();
+    KINDS.iter().position(|&kind| first == Some(kind))
+}
+
+/// The parts of a file, each from the line with its kind and its name to the next
+/// such line, with that line.
 fn parts(file: &str) -> Vec<(String, Text)> {
-    let heads = ["case", "refused", "join", "join_refused"];
     let text = stored_text(file);
     let mut parts: Vec<String> = Vec::new();
     for line in text.lines() {
-        if heads
-            .iter()
-            .any(|head| line.split(' ').next() == Some(head))
-        {
+        if kind_of(line).is_some() {
             parts.push(String::new());
         }
         let part = parts.last_mut().expect("the file begins with a part");
@@ -395,41 +407,103 @@ fn compare_join(text: &Text, name: &str) -> u32 {
     }
 }
 
-#[test]
-fn the_file_of_bundles_holds_the_answers() {
-    let kinds = ["case", "refused", "join", "join_refused"];
+/// The numbers in the lines with this name, one or more that rise.
+fn rising(text: &Text, name: &str) -> Vec<usize> {
+    let lines = text.lines(name).iter();
+    let numbers: Vec<usize> = lines
+        .map(|line| line.concat().parse().expect("a decimal number"))
+        .collect();
+    assert!(!numbers.is_empty(), "{name}");
+    assert!(numbers.windows(2).all(|pair| pair[0] < pair[1]), "{name}");
+    numbers
+}
+
+/// Compares a part of the file `bundle.txt` with what the look answers for the
+/// bundles of a join, and with what is stated of the join.
+fn compare_look(text: &Text, name: &str, join: &Text) -> u32 {
+    let [first, second] = ["first", "second"].map(|name| slice(join, name));
+    let most = first.len() + second.len();
+    let look = |&room: &usize| {
+        let answer = reference::look_before_join(&first, &second, room);
+        answer.map_err(Refusal::number)
+    };
+    let same = |rooms: &[usize], answer| {
+        assert!(rooms.iter().all(|room| look(room) == answer), "{name}");
+    };
+    let rooms = rising(text, "room");
+    if name.starts_with("look ") {
+        let [length, groups] = ["length", "groups"].map(|name| text.number(name));
+        let stated = ["joined_length", "groups"].map(|name| join.number(name));
+        assert_eq!([length, groups], stated, "{name}");
+        assert!(rooms.starts_with(&[length, length + 1, most]), "{name}");
+        assert_eq!(rooms.last(), Some(&usize::MAX), "{name}");
+        same(&rooms, Ok(Joined { length, groups }));
+        let short_rooms = rising(text, "short_room");
+        assert_eq!(short_rooms, [0, length - 1], "{name}");
+        assert_eq!(text.number("short_answer"), 13, "{name}");
+        same(&short_rooms, Err(13));
+        0
+    } else {
+        let [number, of_join] = [text, join].map(|text| text.number("answer"));
+        assert_eq!(number, of_join, "{name}");
+        for room in [0, join.number("out_length")] {
+            assert!(rooms.contains(&room), "{name}");
+        }
+        let all = rooms.contains(&most) && rooms.contains(&usize::MAX);
+        assert_eq!(all, number != 13, "{name}");
+        same(&rooms, Err(number as u32));
+        number as u32
+    }
+}
+
+/// The answers of the file `bundle.txt`, compared: how many parts of each kind have
+/// each answer, 0 where there is no refusal.
+fn compared_bundles() -> BTreeMap<(usize, u32), usize> {
     let mut answers: BTreeMap<(usize, u32), usize> = BTreeMap::new();
-    let (mut names, mut last) = (Vec::new(), 0);
+    let mut read: [Vec<(String, Text)>; KINDS.len()] = Default::default();
+    let mut last = 0;
     for (name, text) in parts(bundle::NAME) {
-        let kind = kinds
-            .iter()
-            .position(|kind| name.split(' ').next() == Some(kind));
-        let kind = kind.expect("a kind of a part");
+        let kind = kind_of(&name).expect("a kind of a part");
         assert!(last <= kind, "{name} comes too late");
         let number = match kind {
             0 | 1 => compare_read(&text, &name),
-            _ => compare_join(&text, &name),
+            2 | 3 => compare_join(&text, &name),
+            // The looks stand in the order of the joins, with the same names.
+            _ => {
+                let (of_join, join) = &read[kind - 2][read[kind].len()];
+                assert_eq!(name.replacen("look", "join", 1), *of_join);
+                compare_look(&text, &name, join)
+            }
         };
         *answers.entry((kind, number)).or_default() += 1;
-        assert!(!names.contains(&name), "{name} is there twice");
+        let mut names = read[kind].iter().map(|(name, _)| name);
+        assert!(!names.any(|other| *other == name), "{name} is there twice");
         last = kind;
-        names.push(name);
+        read[kind].push((name, text));
     }
+    let [.., joins, refused, looks, looks_refused] = read.map(|list| list.len());
+    assert_eq!([looks, looks_refused], [joins, refused]);
+    answers
+}
+
+#[test]
+fn the_file_of_bundles_holds_the_answers() {
+    let answers = compared_bundles();
     let of_reader = [1, 2, 4, 5, 6, 9, 10, 11, 14, 15, 19, 20];
-    let mut stated = BTreeSet::from([(0, 0), (2, 0), (3, 13), (3, 21), (3, 22)]);
-    stated.extend(
-        [1, 3]
-            .iter()
-            .flat_map(|&kind| of_reader.map(|number| (kind, number))),
-    );
+    let mut stated = BTreeSet::from([(0, 0), (2, 0), (4, 0)]);
+    for kind in [1, 3, 5] {
+        stated.extend(of_reader.map(|number| (kind, number)));
+    }
+    for kind in [3, 5] {
+        stated.extend([13, 21, 22].map(|number| (kind, number)));
+    }
     assert!(answers.keys().eq(&stated), "{answers:?}");
     assert!(answers.values().all(|&count| count >= 2), "{answers:?}");
-    assert!(
-        answers[&(0, 0)] >= 25 && answers[&(2, 0)] >= 25,
-        "{answers:?}"
-    );
+    for kind in [0, 2, 4] {
+        assert!(answers[&(kind, 0)] >= 25, "{answers:?}");
+    }
     let size = stored_text(bundle::NAME).len();
-    assert!(size < 150_000, "{size} bytes");
+    assert!(size < 160_000, "{size} bytes");
 }
 
 /// The file after a change: a place, the byte there and another one.

@@ -1,9 +1,10 @@
 //! The entry join bundles: the groups of two bundles of one key, in an output
 //! that may be longer.
 
+use super::look::{self, looked_and_joined};
 use super::parts::{Bundle, Pair};
 use super::{join_groups, table, GROUPS};
-use crate::case::{Call, Case, Entry, Stated, Taken};
+use crate::case::{Case, Entry, Stated, Taken};
 use crate::entries::files::rows_of_bytes;
 use crate::entries::package_field::LENGTH;
 use crate::entries::write::OUT;
@@ -23,7 +24,7 @@ pub const SECOND: &str = "second";
 pub const OF_FIRST: &str = "of first";
 
 /// The refusals of one bundle, then those of two.
-const REFUSALS: &[Refusal] = &[
+pub const REFUSALS: &[Refusal] = &[
     Refusal::BytesMissing,
     Refusal::Tag,
     Refusal::FieldLength,
@@ -41,12 +42,12 @@ const REFUSALS: &[Refusal] = &[
     Refusal::ShortOutput,
 ];
 
-/// The entry join bundles.
+/// The entry join bundles. Each join is looked at first.
 pub const JOIN_BUNDLES: Entry = Entry {
     name: "join bundles",
     refusals: REFUSALS,
-    library: BY_LIBRARY,
-    reference: BY_REFERENCE,
+    library: |taken, outputs| looked_and_joined(look::by_library, by_library, taken, outputs),
+    reference: |taken, outputs| looked_and_joined(look::by_reference, by_reference, taken, outputs),
     rows: Some(rows_of_bundles),
     package: None,
     table: Some(table::JOIN),
@@ -54,16 +55,16 @@ pub const JOIN_BUNDLES: Entry = Entry {
     ..readers::ENTRY
 };
 
-/// The side of the library.
-pub const BY_LIBRARY: Call = |taken, outputs| {
+/// The join of the library.
+fn by_library(taken: &Taken, outputs: &mut Named<Lent>) -> u32 {
     let [first, second] = bundles_of(taken);
     let [out, length, groups] = outputs.each_mut([OUT, LENGTH, GROUPS]);
     let sizes = (length.size_mut(), groups.size_mut());
     library::join_bundles(first, second, out.bytes_mut(), sizes.0, sizes.1)
-};
+}
 
-/// The side of the reference.
-pub const BY_REFERENCE: Call = |taken, outputs| {
+/// The join of the reference.
+pub fn by_reference(taken: &Taken, outputs: &mut Named<Lent>) -> u32 {
     let [first, second] = bundles_of(taken);
     let [out, length, groups] = outputs.each_mut([OUT, LENGTH, GROUPS]);
     match reference::join_bundles(first, second, out.bytes_mut()) {
@@ -74,7 +75,13 @@ pub const BY_REFERENCE: Call = |taken, outputs| {
         }
         Err(refusal) => refusal.number(),
     }
-};
+}
+
+/// The length and the number of groups, as they stand in the outputs.
+pub fn numbers(outputs: &mut Named<Lent>) -> [usize; 2] {
+    let numbers = outputs.each_mut([LENGTH, GROUPS]);
+    numbers.map(|number| *number.size_mut())
+}
 
 /// The two bundles of a call.
 pub fn bundles_of(taken: &Taken) -> [&[u8]; 2] {

@@ -452,11 +452,11 @@ fn harmlessly_changed(bundle: &Bundle, generator: &mut Generator) -> Vec<u8> {
     join(&fields)
 }
 
-/// Two bundles of one key of which one or both have changes: of about every
-/// third pair one has a change that leaves it right.
-const DAMAGED: Group = Group::new("damaged bundles", |generator, each| {
+/// Hands over so many pairs of bundles of one key of which one or both have
+/// changes: of about every third pair one has a change that leaves it right.
+pub fn damaged_pairs(count: usize, generator: &mut Generator, each: &mut dyn FnMut(Case)) {
     let pool = Pool::new(generator);
-    for _ in 0..COUNT {
+    for _ in 0..count {
         let joined = pool.any(generator).clone();
         let pair = Pair::parted(joined, |_| In::any(generator));
         let mut bytes = [&pair.first, &pair.second].map(Bundle::bytes);
@@ -475,6 +475,10 @@ const DAMAGED: Group = Group::new("damaged bundles", |generator, each| {
         let [first, second] = &bytes;
         each(case(first, second, room, None, generator));
     }
+}
+
+const DAMAGED: Group = Group::new("damaged bundles", |generator, each| {
+    damaged_pairs(COUNT, generator, each);
 })
 .with_any_rows();
 

@@ -6,6 +6,7 @@
 //! - [`package`]: packages, as bundles of one group;
 //! - [`join`]: the entry join bundles, [`join_groups`] its groups of cases;
 //! - [`refused`]: the same entry with bundles that are refused;
+//! - [`look`]: the entry look before join, [`look_groups`] its groups of cases;
 //! - [`read_back`]: what join bundles writes, read back;
 //! - `damage`: other changes of bundles;
 //! - [`by_hand`]: bundles whose bytes are written out;
@@ -15,6 +16,8 @@ pub mod by_hand;
 mod damage;
 pub mod join;
 pub mod join_groups;
+pub mod look;
+pub mod look_groups;
 pub mod package;
 pub mod parts;
 pub mod read;

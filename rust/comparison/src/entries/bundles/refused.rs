@@ -154,7 +154,7 @@ pub const EACH_PLACE: Group =
     .with_any_rows();
 
 /// The same bundles without a fault.
-const RIGHT: Group = Group::new("the same without a fault", |generator, each| {
+pub const RIGHT: Group = Group::new("the same without a fault", |generator, each| {
     for (n, m) in SMALL.repeat(100) {
         let pair = right_pair(n, m, generator);
         each(with_room(&pair, generator.below(2), generator));

@@ -1,6 +1,7 @@
 //! The tables of the entries that take bundles.
 
 use super::join::bundles_of;
+use super::look::ROOM;
 use super::parts::{serial_of, Bundle};
 use super::REFUSALS;
 use crate::case::{Case, Cell, Rows, Table};
@@ -107,9 +108,9 @@ fn read_cell(bytes: &[u8]) -> Cell {
     }
 }
 
-/// The table of join bundles: the first key field that differs, or how the
-/// serials of the second lie to those of the first, with the answers, what else
-/// applies and how long the output is.
+/// The table of join bundles and of the look before it: the first key field that
+/// differs, or how the serials of the second lie to those of the first, with the
+/// answers, what else applies and how long the output is.
 pub const JOIN: Table = Table {
     of: "second",
     columns: || {
@@ -200,7 +201,8 @@ fn join_cell(answer: u32, case: &Case) -> Cell {
     }
     let [first, second] = lent.map(Bundle::walked);
     let needed = first.and(&second).bytes().len();
-    let room = case.outputs[OUT].len();
+    let meant = case.numbers.get(ROOM).copied();
+    let room = meant.unwrap_or_else(|| case.outputs[OUT].len());
     let [t, a] = [1, 2].map(|field| differ(&first, &second, field));
     let [none, by_one, between, exact, longer] = OF_OUTPUT;
     let column = match answer {

@@ -1,5 +1,5 @@
 -- Bundles joined, of the contract and the laws.
-use mathlib.Core.Path.{_≡_, sym, ap, ap₂, _∙_}
+use mathlib.Core.Path.{_≡_, refl, sym, ap, ap₂, _∙_}
 use mathlib.Core.Bool.{Bool, cond}
 use mathlib.Core.List.{List, [], _++_, append-assoc}
 use Prim.Native.Nat.{ℕ, _+_, _≤_, _<_}
@@ -47,8 +47,11 @@ module _ (s t out : List ℕ) (room : ℕ) where
       (never, left-refused s t out (look-laws .refused s t room k (sym e) never (length out)))
 
   module _ {z : size.Size} (e : Size z ≡ joinAnswer (levelAt FIRST) s t room) where
-    pub look-short : length out < z .length → (Refused (record { number = 13 }), out) ≡ joinOutcome (levelAt FIRST) s t out
-    look-short h = left-refused s t out (look-laws .told s t room z (sym e) (length out) ∙ ap (at z) (lt-ltb (length out) (z .length) h))
+    pub look-short : length out < z .length → ((Refused (record { number = 13 }), out) ≡ joinOutcome (levelAt FIRST) s t out) × ((x : size.Size) × (x .length ≡ z .length) × (joinAnswer (levelAt FIRST) s t (z .length) ≡ Size x))
+    look-short h = (
+      left-refused s t out (look-laws .told s t room z (sym e) (length out) ∙ ap (at z) (lt-ltb (length out) (z .length) h)),
+      (z, refl, look-laws .told s t room z (sym e) (z .length) ∙ ap (at z) (le-ltb (z .length) (z .length) (omega arith))),
+    )
 
     pub look-exact : z .length ≤ length out → {j : Joined} {end : List ℕ} → (j, end) ≡ joinOutcome (levelAt FIRST) s t (take (z .length) out) → (numberOf j ≡ 13 → ⊥) × ((j, end ++ drop (z .length) out) ≡ joinOutcome (levelAt FIRST) s t out)
     look-exact h {j} {end} f =

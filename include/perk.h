@@ -14,6 +14,9 @@
  *
  *     if (perk_verify(..) == PERK_ACCEPTED) ..       and not: if (perk_verify(..)) ..
  *
+ * Of perk_quick_look, 0 means that all is well, and then its index holds what it held before; 255 is PERK_OFFENDER, which is
+ * no refusal either, and then alone its index is written.
+ *
  * Any other number is a refusal, 1 to 16 or 19 to 22, and then every output holds what it held before. Refusals are tried
  * in the order in which a function lists them; the first that applies is the result. Sizes and lengths are decided before
  * any slice is read, so that a length in bytes for one in words is refused with 3; this is tested, and not part of the
@@ -39,16 +42,18 @@
  * Positions. Position i says which entry of x becomes entry i: x'(i) = x(position i). Positions solve a key when they are
  * 0 to n - 1, each once, and H x', H times x in the order of the positions, equals y. For a key without a target lend m
  * zeros as y. A position below n is a column; one from n to 2^d - 1 is a spare code and names no entry of x; one from 2^d
- * on is too large. perk_prove tells the three apart before any algebra: 16 and 7.
+ * on is too large. perk_prove tells the three apart before any algebra: 16 and 7. perk_quick_look tells, of positions alone,
+ * whether they are 0 to n - 1, each once.
  *
  * Threads. The library has no state: no variable outlives a call, and any number of calls may run at the same time, as
  * long as no output of one is a slice of another. It takes no memory from the heap and calls no operating system.
  *
  * Secrets. Nothing is wiped: perk_constraints and perk_prove leave numbers made of positions, u, v, r and s on the stack
- * below their caller, and in registers. A host that must not leave them there either makes the call in a thread whose
- * stack is memory of its own (pthread_attr_setstack) and wipes this memory once the thread has ended; or calls, in the
- * same function and directly after it, a function that is not inlined and that writes zeros, through a pointer to
- * volatile, over a local array at least as large as the stack that is stated below.
+ * below their caller, and in registers, and perk_quick_look may leave numbers made of positions there. A host that must not
+ * leave them there either makes the call in a thread whose stack is memory of its own (pthread_attr_setstack) and wipes this
+ * memory once the thread has ended; or calls, in the same function and directly after it, a function that is not inlined and
+ * that writes zeros, through a pointer to volatile, over a local array at least as large as the stack that is stated below.
+ * The time of perk_quick_look depends on the positions besides; what it tells is stated there.
  *
  * Linking. libperk.a is for x86-64 with the System V calling convention (Linux). Its code is position independent. It
  * needs memcpy and memset, and nothing else. Stack is stated for each function at its largest sizes.
@@ -59,15 +64,16 @@
 #include <stddef.h>
 #include <stdint.h>
 
-#define PERK_VERSION "0.8.0"
+#define PERK_VERSION "0.9.0"
 #define PERK_VERSION_MAJOR 0
-#define PERK_VERSION_MINOR 8
+#define PERK_VERSION_MINOR 9
 #define PERK_VERSION_PATCH 0
 
 /* results */
 #define PERK_DONE 0
 #define PERK_ACCEPTED 0
-#define PERK_REJECTED 255
+#define PERK_REJECTED 255    /* of perk_verify and perk_check: the equation does not hold */
+#define PERK_OFFENDER 255    /* of perk_quick_look: the position at the index is no column, or came before */
 
 /* refusals */
 #define PERK_SIZE_N 1        /* n is below 2 or above 64 */
@@ -200,6 +206,41 @@ uint32_t perk_product(const uint16_t *a, size_t a_len, const uint16_t *b, size_t
  */
 PERK_LOOK_AT_RESULT
 uint32_t perk_rank(size_t n, size_t m, const uint16_t *h, size_t h_len, uint16_t *matrix, size_t matrix_len, size_t *rank);
+
+/*
+ * For drivers, before they fetch correlations: whether positions are an order, 0 to n - 1, each once, and else the index of
+ * the first offender, a position that is no column or came before. It takes n and the positions alone.
+ *
+ *   positions    n bytes, of any value
+ *   index        a number of the caller's, not within positions; written where the result is PERK_OFFENDER, and never else:
+ *                the index of the first offender, 0 for the first position
+ *
+ * The result is 0 where all is well, and 255, PERK_OFFENDER, where there is an offender. A position came before where an
+ * equal one has a smaller index, so that the later of the two is the offender. Spare codes and positions that are too large
+ * are offenders alike, and are not refused here. For n = 3:
+ *
+ *   2 0 1        0: all is well
+ *   2 0 2        255, index 2: 2 came before
+ *   2 3 0        255, index 1: 3 is a spare code
+ *   2 0 5        255, index 2: 5 is too large
+ *
+ * How to use it: look once the positions are there, and fetch correlations where the result is 0. Where it is PERK_OFFENDER
+ * the positions solve no key, and perk_prove would refuse them with 7, 16 or 8; send them back with the index. 0 says
+ * nothing of H, x and y: whether an order solves a key is for perk_prove to say.
+ *
+ * Time: it tells the index. The positions are read from the first on, and none after the first offender; jumps depend on
+ * them, as is asked of this function. So it is not among the functions of which it is tested that no jump and no address
+ * depends on secrets, and a caller that must hide its positions does not call it: perk_prove refuses the same lists, and
+ * tells no index. When the reading stops is not part of the proof.
+ *
+ * Proved besides: past the refusals the result is 0 exactly when the positions are 0 to n - 1, each once; and, for each key
+ * of this n, each u and each v, exactly when no position is 2^d or more and the top coefficients of the n column
+ * polynomials, the first n of those that perk_constraints defines, are all zero.
+ *
+ * Refusals: 1, 3 (positions), and no others; index keeps what it holds. Stack: under 256 bytes.
+ */
+PERK_LOOK_AT_RESULT
+uint32_t perk_quick_look(size_t n, const uint8_t *positions, size_t positions_len, size_t *index);
 
 /*
  * The masked witness and the n + m constraint polynomials of a key, from the prover's positions, mask bits u and offsets v.
@@ -485,7 +526,9 @@ uint32_t perk_look_before_join(const uint8_t *first, size_t first_len, const uin
 #endif
 
 /*
- * A result in words. This function is the header's and not the library's, and not proved.
+ * A result in words, 255 in those of perk_verify and perk_check. It is not for the 255 of perk_quick_look, PERK_OFFENDER,
+ * which has the same number and no text here; the other results of perk_quick_look may be handed to it. This function is the
+ * header's and not the library's, and not proved.
  */
 static inline const char *perk_refusal_text(uint32_t number) {
     switch (number) {

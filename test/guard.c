@@ -3,7 +3,7 @@
  * for one in words is, the answer is 3 and nothing past the end is read. The readers take files that end where memory ends, whole and cut at
  * every byte, and a package is written to outputs that end there, from none to its length. Bundles that are joined, or looked at before, whole
  * and cut at every byte, and the output end where memory ends, or begin where memory begins; a look is told a room that no memory has, too.
- * Prints how many calls were made.
+ * Positions that are looked at, and the index, begin and end so at every n. Prints how many calls were made.
  */
 #include <stdint.h>
 #include <stdio.h>
@@ -34,6 +34,10 @@ static uint32_t product(struct slice *s) { return perk_product(WORDS(s[0]), WORD
 static uint32_t rank(struct slice *s) {
     size_t rank;
     return perk_rank(N, M, WORDS(s[0]), WORDS_OUT(s[1]), &rank);
+}
+static uint32_t quick_look(struct slice *s) {
+    size_t index;
+    return perk_quick_look(N, BYTES(s[0]), &index);
 }
 static uint32_t constraints(struct slice *s) {
     return perk_constraints(N, M, KEY(s), BYTES(s[3]), BYTES(s[4]), WORDS(s[5]), BYTES_OUT(s[6]), WORDS_OUT(s[7]));
@@ -67,6 +71,7 @@ static struct {
     {"perk_sum", sum, {K(1), K(1), K(1)}},
     {"perk_product", product, {K(1), K(1), K(1)}},
     {"perk_rank", rank, {F(M * N), F(M * N)}},
+    {"perk_quick_look", quick_look, {B(N)}},
     {"perk_constraints", constraints, {OF_KEY, B(N), B(N * D), K(N * D), B(N * D), K((N + M) * (D + 1))}},
     {"perk_values", values, {OF_KEY, B(N * D), K(N * D), K(1), K(N + M)}},
     {"perk_prove", prove, {OF_KEY, B(N), B(N * D), K(N * D), K(D - 1), K(D - 1), K(N + M), B(N * D), K(D)}},
@@ -269,6 +274,43 @@ static void outputs(uint16_t y) {
     }
 }
 
+/* a quick look at positions of this n at an edge of their room, with an index at an edge of its own: the answer is the one stated, index is this
+   where it is an offender, and everything else in both rooms stays */
+static void look_quickly(size_t n, size_t told, int begins, uint32_t stated, size_t offender) {
+    uint8_t positions[64], *from = at_edge(0, n, begins), *place = at_edge(2, sizeof offender, begins), *end = rooms[2].start + rooms[2].len;
+    size_t index;
+    memcpy(positions, from, n);
+    memset(rooms[2].start, 0xA5, rooms[2].len);
+    memcpy(&index, place, sizeof index);
+    if (stated == PERK_OFFENDER) index = offender;
+    at_end("perk_quick_look", told, perk_quick_look(n, from, told, (size_t *)(void *)place), stated);
+    int right = memcmp(place, &index, sizeof index) == 0 && memcmp(positions, from, n) == 0;
+    for (uint8_t *byte = rooms[2].start; byte < end; byte++)
+        right = right && (*byte == 0xA5 || (byte >= place && byte < place + sizeof index));
+    if (right) return;
+    printf("perk_quick_look: index or positions for %zu bytes at n = %zu\n", told, n);
+    failed++;
+}
+
+/* quick looks at an order, at lists with each index as that of the offender, the last too, and at lengths that are too long or too short */
+static void orders(size_t n, int begins) {
+    const size_t wrong[] = {n + 1, 2 * n, n + 4096, SIZE_MAX / 2, n - 1, 0};
+    uint8_t *positions = at_edge(0, n, begins);
+    for (size_t i = 0; i < n; i++) positions[i] = (uint8_t)(n - 1 - i);
+    look_quickly(n, n, begins, PERK_DONE, 0);
+    for (size_t k = 0; k < sizeof wrong / sizeof *wrong; k++) look_quickly(n, wrong[k], begins, PERK_SLICE_LENGTH, 0);
+    for (size_t i = 0; i < n; i++) {
+        positions[i] = 255;
+        look_quickly(n, n, begins, PERK_OFFENDER, i);
+        positions[i] = (uint8_t)n;
+        look_quickly(n, n, begins, PERK_OFFENDER, i);
+        /* the first position once more; at its own place it is all well */
+        positions[i] = (uint8_t)(n - 1);
+        look_quickly(n, n, begins, i > 0 ? PERK_OFFENDER : PERK_DONE, i);
+        positions[i] = (uint8_t)(n - 1 - i);
+    }
+}
+
 /* every entry with right lengths, and with one wrong */
 static void lengths(void) {
     for (size_t e = 0; e < sizeof entries / sizeof *entries; e++) {
@@ -276,11 +318,11 @@ static void lengths(void) {
         size_t slices = 0;
         while (slices < MOST && s[slices].count > 0) place(&s[slices++]);
         /* the rows of H, the first slice of rank too, are unit rows, so that none leans on another; x and y are zero, so every order solves
-           such a key; the fourth slice of a prover's entry holds the positions */
+           such a key; the slices of n bytes hold the positions */
         if (s[0].count == M * N)
             for (size_t i = 0; i < M; i++) ((uint16_t *)s[0].start)[i * N + i] = 1;
-        if (s[3].count == N && s[3].size == 1)
-            for (size_t i = 0; i < N; i++) ((uint8_t *)s[3].start)[i] = (uint8_t)i;
+        for (size_t i = 0; i < slices; i++)
+            for (size_t k = 0; s[i].count == N && s[i].size == 1 && k < N; k++) ((uint8_t *)s[i].start)[k] = (uint8_t)k;
         uint32_t right = entries[e].call(s);
         calls++;
         if (right != 0 && right != 255) {
@@ -316,6 +358,10 @@ int main(void) {
         output(last, 65536);
         parts(last);
         outputs(last);
+    }
+    for (size_t n = 2; n <= 64; n++) {
+        orders(n, 0);
+        orders(n, 1);
     }
     lengths();
     printf("%u calls, %u failed\n", calls, failed);

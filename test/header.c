@@ -269,6 +269,55 @@ static void codes(size_t n, size_t m) {
     positions[n - 1] = (uint8_t)(n - 1);
 }
 
+/* a quick look at so many of the positions has this result: index becomes this where it is an offender, and else keeps what it holds */
+static void looked(const char *what, size_t n, size_t len, uint32_t stated, size_t offender) {
+    static const size_t before[] = {0, 1, SIZE_MAX};
+    for (size_t i = 0; i < sizeof before / sizeof *before; i++) {
+        size_t index = before[i];
+        expect(what, n, 0, perk_quick_look(n, positions, len, &index), stated);
+        expect("index", n, 0, index == (stated == PERK_OFFENDER ? offender : before[i]) ? PERK_DONE : PERK_REJECTED, PERK_DONE);
+    }
+}
+
+/* quick looks at the order 0, 1, .. with one position changed, each to every byte, and with a second offender after the first */
+static void one_changed(size_t n) {
+    for (size_t i = 0; i < n; i++) {
+        for (size_t byte = 0; byte < 256; byte++) {
+            positions[i] = (uint8_t)byte;
+            /* a column from further on is met again at its own place */
+            looked("one position changed", n, n, byte == i ? PERK_DONE : PERK_OFFENDER, byte > i && byte < n ? byte : i);
+        }
+        for (size_t j = i + 1; j < n; j++) {
+            positions[j] = (uint8_t)(j % 2 ? n : 255);
+            positions[i] = (uint8_t)(j % 2 ? 255 : n);
+            looked("two offenders", n, n, PERK_OFFENDER, i);
+            positions[j] = (uint8_t)j;
+        }
+        positions[i] = (uint8_t)i;
+    }
+}
+
+/* quick looks at this n: orders, offenders and the refusals, each of which comes before an offender */
+static void quick_looks(size_t n) {
+    looked("the order 0, 1, ..", n, n, PERK_DONE, 0);
+    for (size_t i = 0; i < n; i++) positions[i] = (uint8_t)(n - 1 - i);
+    looked("the order from n - 1 down", n, n, PERK_DONE, 0);
+    for (size_t i = 0; i < n; i++) positions[i] = (uint8_t)i;
+    one_changed(n);
+    for (int offends = 0; offends < 2; offends++) {
+        positions[0] = offends ? 255 : 0;
+        looked("58", n, n - 1, PERK_SLICE_LENGTH, 0);
+        looked("59", n, 0, PERK_SLICE_LENGTH, 0);
+        if (n < N) looked("60", n, n + 1, PERK_SLICE_LENGTH, 0);
+        looked("61", 65, n, PERK_SIZE_N, 0);
+        looked("62", 1, n, PERK_SIZE_N, 0);
+    }
+    looked("63", 1, 1, PERK_SIZE_N, 0);
+    looked("64", 0, 0, PERK_SIZE_N, 0);
+    looked("65", SIZE_MAX, n, PERK_SIZE_N, 0);
+    positions[0] = 0;
+}
+
 /* PERK_DONE where H in h has this rank and the cleared form has as many rows of zeros as the rank is below m */
 static uint32_t ranked(size_t n, size_t m, size_t stated) {
     size_t rank = m + 1;
@@ -477,7 +526,7 @@ static void joiner(void) {
     expect("55", 2, 1, joins(both, len - 1, first, len, 0, len, 2), PERK_BYTES_MISSING);
 }
 
-/* each of 0 to 16, 19 to 22 and 255 has a text, and no two the same; every other number has one text */
+/* each of 0 to 16, 19 to 22 and 255 has a text, and no two the same; every other number has one text. 255 has that of a rejected proof */
 static void texts(void) {
     static const uint32_t numbers[] = {0, 1, 2, 3, 4, 5, 6, 7, 8, 9, 10, 11, 12, 13, 14, 15, 16, 19, 20, 21, 22, 255, 17};
     static const uint32_t others[] = {18, 23, 254, 256, UINT32_MAX};
@@ -495,6 +544,7 @@ int main(void) {
     for (size_t n = 2; n <= N; n++) {
         sizes(n, 1);
         if (n > 2) sizes(n, n - 1);
+        quick_looks(n);
     }
     material();
     writer();

@@ -22,6 +22,9 @@ int main(void) {
         size_t rank = 5;
         expect("rank", perk_rank(n, 1, NONE, NONE, &rank), stated);
         expect("the rank kept", rank == 5, 1);
+        size_t index = 5;
+        expect("quick look", perk_quick_look(n, NONE, &index), stated);
+        expect("the index kept", index == 5, 1);
         expect("constraints", perk_constraints(KEY, NONE, NONE, NONE, NONE, NONE), stated);
         expect("values", perk_values(KEY, NONE, NONE, NONE, NONE), stated);
         expect("prove", perk_prove(KEY, NONE, NONE, NONE, NONE, NONE, NONE, NONE, NONE), stated);

@@ -33,6 +33,10 @@ static uint32_t rank(void) {
     size_t number;
     return perk_rank(N, M, h, M * N, matrix, M * N, &number);
 }
+static uint32_t quick_look(void) {
+    size_t index;
+    return perk_quick_look(N, positions, N, &index);
+}
 static uint32_t constraints(void) {
     return perk_constraints(KEY, positions, N, u, N * D, v, W * N * D, t, N * D, polynomials, W * (N + M) * (D + 1));
 }
@@ -163,7 +167,7 @@ static void prepare(int shorter) {
 
 int main(int argc, char **argv) {
     /* the first of the functions that take a file */
-    enum { FILES = 8 };
+    enum { FILES = 9 };
     static const struct {
         const char *name;
         uint32_t (*call)(void);
@@ -171,6 +175,7 @@ int main(int argc, char **argv) {
     } calls[] = {{"perk_sum", sum, 2048},
                  {"perk_product", product, 2048},
                  {"perk_rank", rank, 6 * 1024},
+                 {"perk_quick_look", quick_look, 256},
                  {"perk_constraints", constraints, 20 * 1024},
                  {"perk_values", value, 14 * 1024},
                  {"perk_prove", prove, 24 * 1024},

@@ -1,8 +1,8 @@
 //! Tells by `cfg(other_rank)`, `cfg(other_write_package)`,
-//! `cfg(other_join_bundles)` and `cfg(other_look_before_join)` whether the other
-//! build of the library, which the feature `other` links, has these entries: builds
-//! from before an entry have no such function to link. One with `join_bundles` has
-//! `read_bundle` too.
+//! `cfg(other_join_bundles)`, `cfg(other_look_before_join)` and
+//! `cfg(other_quick_look)` whether the other build of the library, which the feature
+//! `other` links, has these entries: builds from before an entry have no such
+//! function to link. One with `join_bundles` has `read_bundle` too.
 
 use std::env;
 use std::path::{Path, PathBuf};
@@ -13,7 +13,13 @@ const ARCHIVE: &str = "libperk_other.a";
 
 /// The entries that another build may not have. The names of its functions are
 /// theirs after `other_perk_`.
-const ENTRIES: [&str; 4] = ["rank", "write_package", "join_bundles", "look_before_join"];
+const ENTRIES: [&str; 5] = [
+    "rank",
+    "write_package",
+    "join_bundles",
+    "look_before_join",
+    "quick_look",
+];
 
 /// The archive in the directories that the flags of the compiler name: `-L` and
 /// then, or at once, `native=` and the directory.

@@ -31,7 +31,7 @@ module _ (p : ℕ → ℕ) where
   abbrev equal : ℕ → ℕ → ℕ
   equal n j = count n (λ i. eqb (p i) j)
 
-  below-suc : (n m : ℕ) → below n (suc m) ≡ below n m + equal n m
+  pub below-suc : (n m : ℕ) → below n (suc m) ≡ below n m + equal n m
   unfolding count
   below-suc zero m = refl
   below-suc (suc n) m = omega (arith, below-suc n m, below-cases (p n) m (λ s l e. cond s 1 0 ≡ cond l 1 0 + cond e 1 0) (λ h. refl) (λ h. refl) (λ h. refl))

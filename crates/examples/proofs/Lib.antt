@@ -7,3 +7,4 @@ pub mod Accepted
 pub mod Target
 pub mod Packages
 pub mod Bundles
+pub mod Driving

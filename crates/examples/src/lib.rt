@@ -26,14 +26,17 @@ ghost use Rattle.joining.specs.declared.Joined.the-variants as joined;
 ghost use Rattle.writer.specs.declared.Written.the-variants.{Length};
 ghost use Rattle.writer.specs.Entry.{dataOf, writeOutcome};
 ghost use Rattle.examples.specs.Lending.{LentExactly};
+ghost use Rattle.examples.specs.Driving.{LooksFirst};
 use elimination::MATRIX;
 use joining::Joined;
 use key::Key;
 use layout::Part;
 use layout::Row;
+use order::Looked;
 use package::Contents;
 use package::Read;
 use refusal::Answer;
+use refusal::Refusal;
 use refusal::Verdict;
 use writer::Written;
 
@@ -237,5 +240,50 @@ pub fn joined_exactly(first: &[u8], second: &[u8], out: &mut [u8]) -> Lent
             }
             Lent::Joined(joining::join_bundles(first, second, &mut out[..len]))
         }
+    }
+}
+
+// What a driver is told that looks before it proves: what prove answers, the index of an offender, or why the positions were not looked at.
+pub enum Driven {
+    Proved(Answer),
+    Offender(usize),
+    Refused(Refusal),
+}
+
+// Proves where a look says that all is well: prove then never answers 7 or 16. Where it does not say so, prove would not be done.
+pub fn looked_first(
+    key: Key,
+    h: &[u16],
+    x: &[u16],
+    y: &[u16],
+    positions: &[u8],
+    u: &[u8],
+    v: &[u16],
+    r: &[u16],
+    s: &[u16],
+    alpha: &[u16],
+    t: &mut [u8],
+    a: &mut [u16],
+) -> Driven
+    ensures { λ o. ⌜ LooksFirst (levelAt FIRST) key (keySlices (now (h .entry)) (now (x .entry)) (now (y .entry))) (now (positions .entry)) (now (u .entry)) (now (v .entry)) (now (r .entry)) (now (s .entry)) (now (alpha .entry)) (now (t .entry)) (now (a .entry)) (now (t .exit), now (a .exit)) o ⌝ }
+{
+    let n = key.n;
+    match order::quick_look(n, positions) {
+        Looked::Well => Driven::Proved(prover::prove(
+            key,
+            h,
+            x,
+            y,
+            positions,
+            u,
+            v,
+            r,
+            s,
+            alpha,
+            t,
+            a,
+        )),
+        Looked::Offender(index) => Driven::Offender(index),
+        Looked::Refused(refusal) => Driven::Refused(refusal),
     }
 }

@@ -48,9 +48,13 @@ lengths l key = record {
   one = l .coordinates;
 }
 
--- place 'sizes': "n below 2 or above 64", 64 being the level's; "m is 0, or at least n"
+-- place 'sizes': "n below 2 or above 64", 64 being the level's
+abbrev pub sizeN : Level → ℕ → List (Bool × ℕ)
+sizeN l n = (ltb n 2, 1) ∷ (ltb (l .most) n, 1) ∷ []
+
+-- and "m is 0, or at least n"
 abbrev pub sizes : Level → Key → List (Bool × ℕ)
-sizes l key = (ltb (key .n) 2, 1) ∷ (ltb (l .most) (key .n), 1) ∷ (eqb (key .m) 0, 2) ∷ (leb (key .n) (key .m), 2) ∷ []
+sizes l key = sizeN l (key .n) ++ ((eqb (key .m) 0, 2) ∷ (leb (key .n) (key .m), 2) ∷ [])
 
 -- "n is 2 to 64 and m is 1 to n - 1": what holds where none of them applies
 pub record Sized (l : Level) (key : Key) : Type 0 where

@@ -6,7 +6,7 @@ ghost use lib.Dec.{ltb, eqb};
 ghost use lib.ListN.{length};
 ghost use Rattle.refusal.specs.Answer.{firstOf};
 ghost use Rattle.field.specs.Level.{levelAt};
-ghost use Rattle.key.specs.Key.{degree, lengths, sizes, Sized, below, codesOf, codeNumber, codeAt, keySlices, keyWithin, contents, material, spareRow};
+ghost use Rattle.key.specs.Key.{degree, lengths, sizeN, sizes, Sized, below, codesOf, codeNumber, codeAt, keySlices, keyWithin, contents, material, spareRow};
 use field::Level;
 use refusal::Answer;
 use refusal::Refusal;
@@ -82,12 +82,9 @@ impl Key {
     {
         let n = self.n;
         let m = self.m;
-        if n < 2 {
-            return Answer::Refused(Refusal::SIZE_N);
-        }
-        let most = Level::of(level).most;
-        if most < n {
-            return Answer::Refused(Refusal::SIZE_N);
+        let size = size_n(n, level);
+        if let Answer::Refused(_) = size {
+            return size;
         }
         if m == 0 {
             return Answer::Refused(Refusal::SIZE_M);
@@ -133,6 +130,20 @@ impl Key {
         }
         ((no_column >> 8) + (no_code >> 8)) as u8
     }
+}
+
+// The first refusal of n alone that applies.
+pub fn size_n(n: usize, level: usize) -> Answer
+    ensures { λ r. ⌜ r ≡ firstOf (sizeN (levelAt level) n) ⌝ }
+{
+    if n < 2 {
+        return Answer::Refused(Refusal::SIZE_N);
+    }
+    let most = Level::of(level).most;
+    if most < n {
+        return Answer::Refused(Refusal::SIZE_N);
+    }
+    Answer::Done
 }
 
 // The position and what the limit lacks to 256: it has a ninth digit exactly when the position is the limit or more.

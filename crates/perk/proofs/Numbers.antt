@@ -31,6 +31,12 @@ zero-done [] f e = refl
 zero-done ((false, k) ∷ rows) f e = zero-done rows (f .2) e
 zero-done ((true, k) ∷ rows) f e = absurd (omega (arith, f .0, e))
 
+-- the number of a refusal is neither
+pub refused-between : (rows : List (Bool × ℕ)) → Refusals rows → {q : Refusal} → firstOf rows ≡ Refused q → (0 < q .number) × (q .number < 255)
+refused-between [] f e = let z : _≡_ {A = ℕ} 0 1 = cc in absurd (omega arith)
+refused-between ((false, k) ∷ rows) f e = refused-between rows (f .2) e
+refused-between ((true, k) ∷ rows) f e = let z = ap numberOf e in (omega (arith, f .0, z), omega (arith, f .1, z))
+
 -- the same of an answer that comes with a number of its own where it is no refusal
 pub zero-told : {A : Type 0} (number : A → ℕ) (told : Answer → A) (rows : List (Bool × ℕ)) → Refusals rows → ((q : Refusal) → number (told (Refused q)) ≡ q .number) → {a : A} → a ≡ told (firstOf rows) → number a ≡ 0 → firstOf rows ≡ Done
 zero-told number told rows f same e z = zero-done rows f (go (firstOf rows) refl)

@@ -3,6 +3,8 @@ use mathlib.Core.List.{List}
 use Prim.Native.Nat.{ℕ}
 use Rattle.rank.specs.declared.Ranked.{Ranked}
 use Rattle.rank.specs.declared.Ranked.the-variants as ranked
+use Rattle.order.specs.declared.Looked.{Looked}
+use Rattle.order.specs.declared.Looked.the-variants as looked
 use Rattle.joining.specs.declared.Joined.{Joined}
 use Rattle.joining.specs.declared.Joined.the-variants as joined
 use Rattle.writer.specs.declared.Written.{Written}
@@ -12,6 +14,12 @@ use Rattle.writer.specs.declared.Written.the-variants as written
 abbrev pub rankOr : Ranked → ℕ → ℕ × ℕ
 rankOr (ranked.Rank r) old = (0, r)
 rankOr (ranked.Refused q) old = (q .number, old)
+
+-- the same with the index of an offender; what was there before stays where all is well, too
+abbrev pub indexOr : Looked → ℕ → ℕ × ℕ
+indexOr looked.Well old = (0, old)
+indexOr (looked.Offender i) old = (255, i)
+indexOr (looked.Refused q) old = (q .number, old)
 
 -- the same with the length
 abbrev pub lengthOr : Written → ℕ → ℕ × ℕ

@@ -17,15 +17,18 @@ ghost use Rattle.verifier.specs.Entry.{verifyOutcome, verifyLeans, Judges};
 ghost use Rattle.package.specs.Reading.{packageReader, checkFileReader, reading, fieldPart};
 ghost use Rattle.checkfile.specs.Checking.{checkNumber, checking};
 ghost use Rattle.rank.specs.Entry.{rankOutcome, Tells};
+ghost use Rattle.order.specs.Entry.{lookOutcome};
+ghost use Rattle.order.specs.Tells.{Tells as TellsOrder};
 ghost use Rattle.bundle.specs.Reading.{reading as readingBundle};
 ghost use Rattle.joining.specs.Entry.{joinAnswer, joinOutcome};
 ghost use Rattle.joining.specs.Laws.{ReadBack as ReadJoined};
 ghost use Rattle.perk.specs.Files.{SmallSizes, readPut, SmallBundle, bundlePut, spanOf};
 ghost use Rattle.writer.specs.Entry.{writeOutcome, writeLeans};
 ghost use Rattle.writer.specs.Laws.{ReadBack};
-ghost use Rattle.perk.specs.Answered.{rankOr, lengthOr, sizeOr, answered};
+ghost use Rattle.perk.specs.Answered.{rankOr, indexOr, lengthOr, sizeOr, answered};
 use joining::Joined;
 use key::Key;
+use order::Looked;
 use package::Read;
 use rank::Ranked;
 use writer::Written;
@@ -163,6 +166,29 @@ pub extern "C" fn perk_rank(
 {
     let key = Key { n, m };
     put_rank(rank::rank(key, h, matrix), rank)
+}
+
+// The number of an answer; the index is written where it is that of an offender.
+fn put_index(answer: Looked, index: &mut usize) -> u32
+    ensures { λ r. ⌜ (r, now (index .exit)) ≡ indexOr answer (now (index .entry)) ⌝ }
+{
+    match answer {
+        Looked::Well => 0,
+        Looked::Offender(found) => {
+            *index = found;
+            255
+        }
+        Looked::Refused(refusal) => refusal.number,
+    }
+}
+
+// Whether the positions are an order, or the index of the first that is no column or came before.
+#[no_mangle]
+pub extern "C" fn perk_quick_look(n: usize, positions: &[u8], index: &mut usize) -> u32
+    ensures outcome { λ r. ⌜ (r, now (index .exit)) ≡ indexOr (lookOutcome (levelAt FIRST) n (now (positions .entry))) (now (index .entry)) ⌝ }
+    ensures tells { λ r. ⌜ TellsOrder (levelAt FIRST) n (now (positions .entry)) (r ≡ 0) (λ i. (r ≡ 255) × (now (index .exit) ≡ i)) ⌝ }
+{
+    put_index(order::quick_look(n, positions), index)
 }
 
 // The number of a reader's answer; n, m and the serial are written where it is no refusal.

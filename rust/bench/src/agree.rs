@@ -2,12 +2,16 @@
 //! on some that are refused.
 
 use crate::implementation::{
-    material, written_words, Found, Implementation, ALL, FILED, JOIN, KEYED, LOOK, RANK,
-    READ_BUNDLE, WRITE,
+    material, written_words, Found, Implementation, ALL, FILED, JOIN, KEYED, LOOK, QUICK_LOOK,
+    RANK, READ_BUNDLE, WRITE,
 };
 use reference::package::{bundle_bytes, package_bytes, Group};
 use reference::samples::{Generator, Leaning, Material, Sample};
+use reference::vectors::quick_look::OFFENDER;
 use reference::Refusal;
+
+/// What a number holds that no call has written.
+const UNWRITTEN: usize = 99_999;
 
 /// Whether all are the same.
 fn same<T: PartialEq>(mut outcomes: impl Iterator<Item = T>) -> bool {
@@ -102,6 +106,46 @@ fn ranks(generator: &mut Generator) -> Result<(), String> {
                 return Err(format!("{RANK} at n = {n}, m = {m}"));
             }
         }
+    }
+    Ok(())
+}
+
+/// Tries the entry quick look, on lists of all sizes: orders, lists with up to three
+/// other numbers, and some that are refused.
+fn orders(generator: &mut Generator) -> Result<(), String> {
+    let (mut well, mut offenders, mut refused) = (0, 0, 0);
+    for n in 2..=64 {
+        for round in 0..24 {
+            let (mut n, mut positions) = (n, generator.order(n));
+            for _ in 0..round % 4 {
+                let limit = [n, 2 * n, 256][generator.below(3)];
+                positions[generator.below(n)] = generator.below(limit) as u8;
+            }
+            match round {
+                0..=2 => n = [0, 1, 65, usize::MAX][generator.below(4)],
+                3..=5 => positions.resize([0, n - 1, n + 1][round - 3], 0),
+                _ => {}
+            }
+            let mut answer = 0;
+            let outcomes = ALL.iter().filter_map(|one| one.quick_look).map(|entry| {
+                let mut index = UNWRITTEN;
+                answer = entry(n, &positions, &mut index);
+                (answer, index)
+            });
+            if !same(outcomes) {
+                return Err(format!("{QUICK_LOOK} at n = {n}: {positions:?}"));
+            }
+            match answer {
+                0 => well += 1,
+                OFFENDER => offenders += 1,
+                _ => refused += 1,
+            }
+        }
+    }
+    if well < 200 || offenders < 300 || refused < 300 {
+        return Err(format!(
+            "{QUICK_LOOK} is tried too little: {well}, {offenders}, {refused}"
+        ));
     }
     Ok(())
 }
@@ -274,9 +318,6 @@ fn two_bundles(n: usize, generator: &mut Generator) -> [Vec<u8>; 2] {
     bundles
 }
 
-/// What a number holds that no call has written.
-const UNWRITTEN: usize = 99_999;
-
 /// What the join or the look before it answers, and the length and the number of
 /// groups that it writes.
 type Sized = (u32, [usize; 2]);
@@ -396,5 +437,6 @@ pub fn agree(file: &[u8], package: &[u8]) -> Result<(), String> {
     leaning_keys(generator)?;
     packages(generator)?;
     bundles(generator)?;
-    files(file, package, generator)
+    files(file, package, generator)?;
+    orders(generator)
 }

@@ -2,8 +2,8 @@
 
 use crate::bundles::{self, Pair};
 use crate::implementation::{
-    material, written_words, Found, OnBytes, OnElements, OnKey, OnMatrix, OnPackage, ALL, FILED,
-    KEYED, RANK, WRITE,
+    material, written_words, Found, OnBytes, OnElements, OnKey, OnMatrix, OnPackage, OnPositions,
+    ALL, FILED, KEYED, QUICK_LOOK, RANK, WRITE,
 };
 use crate::measure::{Calls, Row, Subject};
 use crate::products;
@@ -24,10 +24,15 @@ pub const ONE_PRODUCT: (&str, &str) = ("product", "independent");
 /// The sizes n and m of the packages that are written, the longest one last.
 const WRITTEN: [(usize, usize); 2] = [(64, 27), (64, 63)];
 
+/// The sizes n of the orders that are looked at, and what their rows say.
+const ORDERS: [(usize, &str); 2] = [(8, "n = 8"), (64, "n = 64")];
+
 /// What all rows are called with.
 pub struct Inputs {
     /// The keys with their material.
     materials: Vec<Material>,
+    /// Orders, and what their rows say.
+    orders: Vec<(&'static str, Vec<u8>)>,
     /// A check file.
     pub file: Vec<u8>,
     /// Its package.
@@ -49,8 +54,10 @@ impl Inputs {
                 })
             })
             .collect();
+        let orders = ORDERS.map(|(n, form)| (form, generator.order(n)));
         Inputs {
             materials,
+            orders: orders.to_vec(),
             package: package_of(&file).to_vec(),
             file,
             bundles: Pair::all(),
@@ -143,6 +150,17 @@ fn with_matrix(entry: OnMatrix, material: &Material) -> Calls<'_> {
     })
 }
 
+/// Calls with an order, all of which is read.
+fn with_order(entry: OnPositions, positions: &[u8]) -> Calls<'_> {
+    Box::new(move |count| {
+        for _ in 0..count {
+            let mut index = usize::MAX;
+            let answer = entry(positions.len(), black_box(positions), &mut index);
+            assert_eq!((answer, index), (0, usize::MAX));
+        }
+    })
+}
+
 /// The package of some material.
 fn package(Material { sample, t, a }: &Material) -> Vec<u8> {
     package_bytes(sample.key(), sample.serial, t, a)
@@ -220,6 +238,25 @@ fn on_elements(rows: &mut Vec<Row>) {
     push("product", "chain", Some(1), chains.collect());
     let products = all.map(|one| Some(independent(one.product)));
     push(ONE_PRODUCT.0, ONE_PRODUCT.1, Some(1), products.collect());
+}
+
+/// The rows on orders.
+fn on_orders<'a>(inputs: &'a Inputs, rows: &mut Vec<Row<'a>>) {
+    for (form, positions) in &inputs.orders {
+        let calls = ALL
+            .iter()
+            .map(|one| one.quick_look.map(|entry| with_order(entry, positions)));
+        rows.push(Row {
+            subject: Subject {
+                entry: QUICK_LOOK,
+                sizes: None,
+                form,
+                products: None,
+                process: false,
+            },
+            calls: calls.collect(),
+        });
+    }
 }
 
 /// What is timed of the writing of a package by one implementation.
@@ -300,6 +337,7 @@ pub fn rows(inputs: &Inputs) -> Vec<Row<'_>> {
             calls: calls.collect(),
         });
     }
+    on_orders(inputs, &mut rows);
     for material in inputs.written() {
         let Sample { n, m, .. } = material.sample;
         let calls = ALL

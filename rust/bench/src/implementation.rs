@@ -1,6 +1,6 @@
 //! The implementations that are compared, each by the functions of its entries.
 
-use crate::of_reference;
+use crate::{of_reference, order};
 use comparison::library;
 use reference::package::tag;
 use reference::samples::{Material, Sample};
@@ -13,6 +13,9 @@ pub type OnKey = fn(&Material, &mut [u8], &mut [u16]) -> u32;
 
 /// The entry rank: n, m and H, the matrix and the rank that it writes.
 pub type OnMatrix = fn(usize, usize, &[u16], &mut [u16], &mut usize) -> u32;
+
+/// The entry quick look: n and the positions, and the index that it writes.
+pub type OnPositions = fn(usize, &[u8], &mut usize) -> u32;
 
 /// The entry write package: the room for the package, and its length, which it
 /// writes too.
@@ -51,6 +54,9 @@ pub const KEYED: [&str; 4] = ["constraints", "values", "prove", "verify"];
 /// The name of the entry rank.
 pub const RANK: &str = "rank";
 
+/// The name of the entry quick look.
+pub const QUICK_LOOK: &str = "quick_look";
+
 /// The name of the entry write package.
 pub const WRITE: &str = "write_package";
 
@@ -76,6 +82,8 @@ pub struct Implementation {
     /// The entry rank. Another build may be from before it; then its other
     /// entries do not refuse rows that lean on each other.
     pub rank: Option<OnMatrix>,
+    /// The entry quick look, where it has it.
+    pub quick_look: Option<OnPositions>,
     /// The entry write package, where it has it.
     pub write: Option<OnPackage>,
     /// The entries read bundle and join bundles, where it has them.
@@ -155,17 +163,18 @@ macro_rules! bundles {
     }};
 }
 
-/// The implementation of a module, with its name, its entries rank and write
-/// package, its entries on bundles, the look before the join, its entries on bytes,
-/// and whether its instructions are counted.
+/// The implementation of a module, with its name, its entries rank, quick look and
+/// write package, its entries on bundles, the look before the join, its entries on
+/// bytes, and whether its instructions are counted.
 macro_rules! implementation {
-    ($module:path, $name:literal, $rank:expr, $write:expr, $bundles:expr, $look:expr, $filed:expr, $counted:literal) => {{
+    ($module:path, $name:literal, $rank:expr, $quick_look:expr, $write:expr, $bundles:expr, $look:expr, $filed:expr, $counted:literal) => {{
         use $module as module;
         Implementation {
             name: $name,
             sum: module::sum,
             product: module::product,
             rank: $rank,
+            quick_look: $quick_look,
             write: $write,
             bundles: $bundles,
             look: $look,
@@ -182,6 +191,13 @@ const OTHER_RANK: Option<OnMatrix> = Some(library::other::rank);
 /// The entry rank of another build from before it.
 #[cfg(all(feature = "other", not(other_rank)))]
 const OTHER_RANK: Option<OnMatrix> = None;
+
+/// The entry quick look of another build that has it.
+#[cfg(all(feature = "other", other_quick_look))]
+const OTHER_QUICK_LOOK: Option<OnPositions> = Some(library::other::quick_look);
+/// The entry quick look of another build from before it.
+#[cfg(all(feature = "other", not(other_quick_look)))]
+const OTHER_QUICK_LOOK: Option<OnPositions> = None;
 
 /// The entry write package of another build that has it.
 #[cfg(all(feature = "other", other_write_package))]
@@ -210,6 +226,7 @@ pub const ALL: &[Implementation] = &[
         library,
         "library",
         Some(library::rank),
+        Some(library::quick_look),
         writer!(library),
         bundles!(library),
         Some(library::look_before_join),
@@ -220,6 +237,7 @@ pub const ALL: &[Implementation] = &[
         packed,
         "Rust",
         Some(packed::rank),
+        Some(order::quick_look),
         None,
         None,
         None,
@@ -230,6 +248,7 @@ pub const ALL: &[Implementation] = &[
         of_reference,
         "reference",
         Some(of_reference::rank),
+        Some(of_reference::quick_look),
         writer!(of_reference),
         bundles!(of_reference),
         Some(of_reference::look_before_join),
@@ -241,6 +260,7 @@ pub const ALL: &[Implementation] = &[
         library::other,
         "other",
         OTHER_RANK,
+        OTHER_QUICK_LOOK,
         OTHER_WRITE,
         OTHER_BUNDLES,
         OTHER_LOOK,

@@ -24,6 +24,7 @@ mod count;
 mod implementation;
 mod measure;
 mod of_reference;
+mod order;
 mod process;
 mod products;
 mod svg;

@@ -1,5 +1,6 @@
 //! The entries of the reference as functions like those of `comparison::library`.
 
+use reference::vectors::quick_look::OFFENDER;
 use reference::{Contents, Joined, Key, Refusal, Verdict};
 
 /// The number of an answer.
@@ -42,6 +43,18 @@ entries! {
 /// The entry rank.
 pub fn rank(n: usize, m: usize, h: &[u16], matrix: &mut [u16], rank: &mut usize) -> u32 {
     number(reference::rank(n, m, h, matrix).map(|answered| *rank = answered))
+}
+
+/// The entry quick look.
+pub fn quick_look(n: usize, positions: &[u8], index: &mut usize) -> u32 {
+    match reference::quick_look(n, positions) {
+        Ok(None) => 0,
+        Ok(Some(offender)) => {
+            *index = offender;
+            OFFENDER
+        }
+        Err(refusal) => refusal.number(),
+    }
 }
 
 /// The entry write package.

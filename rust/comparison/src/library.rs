@@ -1,6 +1,7 @@
 //! The C functions of libperk.a, as functions on slices. Each answers 0 when
 //! it is done, else the number of the refusal; verify and check answer 255 when
-//! they reject. The field of a package answers a length.
+//! they reject, and quick look when some position is an offender. The field of a
+//! package answers a length.
 //!
 //! With the feature `other`, the module `other` has the same functions of
 //! another build of the library, linked beside it, whose C names start with
@@ -107,6 +108,15 @@ macro_rules! build {
             // SAFETY: the slices are valid for their lengths, and neither the
             // matrix nor the number overlaps another.
             unsafe { c::perk_rank(n, m, h, h_len, matrix, matrix_len, rank) }
+        }
+
+        /// The entry quick look: writes the index of the first position that is
+        /// no column or came before.
+        pub fn quick_look(n: usize, positions: &[u8], index: &mut usize) -> u32 {
+            let (positions, positions_len) = (positions.as_ptr(), positions.len());
+            // SAFETY: the slice is valid for its length, and the number doesn't
+            // overlap it.
+            unsafe { c::perk_quick_look(n, positions, positions_len, index) }
         }
 
         /// The entry write package: writes the package and its length.

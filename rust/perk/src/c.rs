@@ -38,6 +38,14 @@ macro_rules! declarations {
                 rank: *mut usize,
             ) -> u32;
 
+            #[link_name = concat!($prefix, "perk_quick_look")]
+            pub fn perk_quick_look(
+                n: usize,
+                positions: *const u8,
+                positions_len: usize,
+                index: *mut usize,
+            ) -> u32;
+
             #[link_name = concat!($prefix, "perk_constraints")]
             pub fn perk_constraints(
                 n: usize,

@@ -10,9 +10,9 @@
 //! stack that each function takes stands in `include/perk.h` of the repository.
 //!
 //! The library keeps no state, so any function may be called by several threads
-//! at once. It does not wipe the stack: after [`prove`] and [`constraints`],
-//! secrets and what was worked out of them stay there until something else is
-//! written over them.
+//! at once. It does not wipe the stack: after [`prove`], [`constraints`] and
+//! [`quick_look`], secrets and what was worked out of them stay there until
+//! something else is written over them.
 //!
 //! # Elements
 //!
@@ -29,6 +29,11 @@
 //! the target y. A key without a target has m zeros as y. Positions below n are
 //! columns; n to 2^d - 1 are spare codes, which name no entry of x.
 //!
+//! A driver that wants to know whether positions are 0 to n - 1, each once, before
+//! it fetches correlations asks [`quick_look`], which takes n and the positions
+//! alone and tells the index of the first that is no column or came before. Its time
+//! tells that index: a driver that must hide the positions does not call it.
+//!
 //! # Rows that lean
 //!
 //! The rows of H lean on each other where some coefficients from F, not all zero,
@@ -42,7 +47,8 @@
 //!
 //! A function refuses with the first [`Refusal`] that applies, in the order in
 //! which it lists them, and then every output holds what it held before. A
-//! proof that is [`Verdict::Rejected`] is no refusal: it is `Ok`.
+//! proof that is [`Verdict::Rejected`] is no refusal: it is `Ok`. So is a list of
+//! positions with a [`Look::Offender`].
 //!
 //! `Ok(Verdict::Accepted)` means only that the equation of [`verify`] holds. It
 //! does not by itself mean that a signature is valid: the challenge, the weights
@@ -95,6 +101,9 @@
 //! assert_eq!(prove([2, 0, 3]), Err(Refusal::SpareCode));
 //! assert_eq!(prove([2, 3, 4]), Err(Refusal::Position));
 //! ```
+//!
+//! To look at the positions alone, before anything is fetched for them:
+//! [`quick_look`] has an example.
 //!
 //! To test the rows of a key. Here the second row is first 2 times the first, in F,
 //! so that the rank is 1 and the row is cleared to zeros; with 7 at its end it no
@@ -246,10 +255,12 @@ macro_rules! call {
 mod bundle;
 #[doc(hidden)]
 pub mod c;
+mod order;
 mod package;
 mod refusal;
 
 pub use bundle::{join_bundles, look_before_join, read_bundle, Bundle, Joined};
+pub use order::{quick_look, Look};
 pub use package::{
     check, field, package_of, read_check_file, read_package, write_package, Contents,
     LARGEST_PACKAGE_BYTES,

@@ -24,7 +24,8 @@ pub enum Refusal {
     Bit = 5,
     /// 6: a coordinate of an element of K is above 2047.
     Coordinate = 6,
-    /// 7: a position is 2^d or more.
+    /// 7: a position is 2^d or more. [`quick_look`](crate::quick_look) tells the index
+    /// of such a position, and does not refuse it.
     Position = 7,
     /// 8: a top coefficient of the n + m polynomials is not zero, which means
     /// that the positions do not solve the key.
@@ -51,7 +52,8 @@ pub enum Refusal {
     DependentRows = 15,
     /// 16: a position is a spare code, n to 2^d - 1, which names no column, and
     /// none is 2^d or more. Of [`prove`](crate::prove) alone;
-    /// [`constraints`](crate::constraints) takes spare codes.
+    /// [`constraints`](crate::constraints) takes spare codes, and
+    /// [`quick_look`](crate::quick_look) tells the index of one.
     SpareCode = 16,
     /// 19: a serial of four bytes is below 65536, so that it fits two.
     LongSerial = 19,

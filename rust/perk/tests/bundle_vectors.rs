@@ -1,6 +1,10 @@
 //! The bundles of vectors/bundle.txt: what the reference answered for each, and
 //! what it wrote; for two bundles, what it told before.
 
+#[path = "common/parts.rs"]
+mod parts;
+
+use parts::Part;
 use perk::{join_bundles, look_before_join, read_bundle, Bundle, Joined, Refusal};
 
 const TEXT: &str = include_str!("../../../vectors/bundle.txt");
@@ -18,22 +22,19 @@ const KINDS: [&str; 6] = [
     "look_refused",
 ];
 
-/// A part of the file: its lines, each a name and a value.
-struct Part(Vec<(&'static str, &'static str)>);
-
-impl Part {
-    /// Its name, which its first line has.
-    fn name(&self) -> &'static str {
-        self.0[0].1
-    }
-
-    /// The values of the lines with this name.
-    fn values<'a>(&'a self, name: &'a str) -> impl Iterator<Item = &'static str> + 'a {
-        let lines = self.0.iter().filter(move |(other, _)| *other == name);
-        lines.map(|(_, value)| *value)
-    }
-
+/// What lines of this file hold besides numbers of their own.
+trait Lines {
     /// The numbers in the lines with this name, at least one.
+    fn numbers(&self, name: &str) -> Vec<usize>;
+
+    /// The bytes in all lines with this name, which are as many as another line says.
+    fn bytes(&self, name: &str) -> Vec<u8>;
+
+    /// The refusal in the one line with this name.
+    fn refusal(&self, name: &str) -> Refusal;
+}
+
+impl Lines for Part {
     fn numbers(&self, name: &str) -> Vec<usize> {
         let numbers = self.values(name).map(|value| value.parse());
         let numbers: Result<Vec<usize>, _> = numbers.collect();
@@ -42,13 +43,6 @@ impl Part {
         numbers
     }
 
-    /// The number in the one line with this name.
-    fn number(&self, name: &str) -> usize {
-        let number = self.values(name).next().expect("a line");
-        number.parse().expect("a number")
-    }
-
-    /// The bytes in all lines with this name, which are as many as another line says.
     fn bytes(&self, name: &str) -> Vec<u8> {
         let digits: String = self.values(name).collect();
         let pairs = (0..digits.len()).step_by(2).map(|at| &digits[at..at + 2]);
@@ -58,7 +52,6 @@ impl Part {
         bytes
     }
 
-    /// The refusal in the one line with this name.
     fn refusal(&self, name: &str) -> Refusal {
         let number = self.number(name) as u32;
         let refusal = Refusal::ALL
@@ -68,19 +61,9 @@ impl Part {
     }
 }
 
-/// The parts that begin with a line of this name, at least one.
+/// The parts of the file that begin with a line of this name.
 fn parts(kind: &str) -> Vec<Part> {
-    let mut parts: Vec<Part> = vec![];
-    for line in TEXT.lines() {
-        let (name, value) = line.split_once(' ').expect("a name and a value");
-        if KINDS.contains(&name) {
-            parts.push(Part(vec![]));
-        }
-        parts.last_mut().expect("a part").0.push((name, value));
-    }
-    parts.retain(|part| part.0[0].0 == kind);
-    assert!(!parts.is_empty(), "{kind}");
-    parts
+    parts::parts(TEXT, &KINDS, kind)
 }
 
 #[test]

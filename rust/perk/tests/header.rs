@@ -137,7 +137,7 @@ fn declarations_agree() {
     let rattle = of_rattle();
     let header = of_header();
     let rust = of_rust();
-    assert!(rattle.len() >= 15 && rattle["perk_sum"].1.len() == 6);
+    assert!(rattle.len() >= 16 && rattle["perk_sum"].1.len() == 6);
     assert!(rattle.keys().eq(header.keys()), "perk.h: other functions");
     assert!(rattle.keys().eq(rust.keys()), "c.rs: other functions");
     for (name, function) in rattle {
@@ -180,6 +180,9 @@ fn texts_agree() {
     // those of the refusals, of done and of rejected
     assert_eq!(texts.len(), Refusal::ALL.len() + 2);
     assert_eq!(texts[&names["PERK_REJECTED"]], "rejected");
+    // an offender has the number of a rejected proof, which is no refusal's
+    assert_eq!(names["PERK_OFFENDER"], 255);
+    assert_eq!(names["PERK_REJECTED"], 255);
     for refusal in Refusal::ALL {
         assert_eq!(texts[&refusal.number()], refusal.to_string());
     }

@@ -5,7 +5,9 @@
 use crate::check_zero;
 use crate::constraint;
 use crate::elimination::cleared;
-use crate::key::{bits, elements_of_f, elements_of_k, judge_columns, rows, witness, Key, Sizes};
+use crate::key::{
+    bits, elements_of_f, elements_of_k, judge_columns, judge_n, rows, witness, Key, Sizes,
+};
 use crate::large_field::{COORDINATES, K};
 use crate::lent;
 use crate::package::{package_bytes, Bundle, Joined};
@@ -85,6 +87,27 @@ pub fn rank(n: usize, m: usize, h: &[u16], matrix: &mut [u16]) -> Result<usize, 
         .collect();
     matrix.copy_from_slice(&words);
     Ok(cleared.rank())
+}
+
+/// Whether the position at this index "is no column or came before".
+fn offends(n: usize, positions: &[u8], index: usize) -> bool {
+    let position = positions[index];
+    let is_column = (0..n).any(|column| column == usize::from(position));
+    !is_column || positions[..index].contains(&position)
+}
+
+/// The entry quick look: "whether n positions are an order". It answers none when
+/// "all is well", and else the index "of the first offender over the whole list",
+/// which is the least of all offenders' indices; "a position too large is an
+/// offender and gets no 7". The refusals are 1, then 3.
+pub fn quick_look(n: usize, positions: &[u8]) -> Result<Option<usize>, Refusal> {
+    judge_n(n)?;
+    if positions.len() != n {
+        return Err(Refusal::SliceLength);
+    }
+
+    let offenders: Vec<usize> = (0..n).filter(|&i| offends(n, positions, i)).collect();
+    Ok(offenders.into_iter().min())
 }
 
 /// The entry constraints: "takes the key, positions, u and v; writes t and all

@@ -20,9 +20,7 @@ impl Sizes {
     /// The place "sizes": 1 "n below 2 or above 64", then 2 "m is 0, or at
     /// least n". No other number is formed from n and m before.
     pub fn judged(n: usize, m: usize) -> Result<Sizes, Refusal> {
-        if !(2..=64).contains(&n) {
-            return Err(Refusal::SizeN);
-        }
+        judge_n(n)?;
         if m == 0 || m >= n {
             return Err(Refusal::SizeM);
         }
@@ -118,6 +116,15 @@ impl Sizes {
         } else {
             Err(Refusal::SliceLength)
         }
+    }
+}
+
+/// 1 "n below 2 or above 64", of the place "sizes".
+pub fn judge_n(n: usize) -> Result<(), Refusal> {
+    if (2..=64).contains(&n) {
+        Ok(())
+    } else {
+        Err(Refusal::SizeN)
     }
 }
 

@@ -24,6 +24,7 @@ pub mod leaning;
 pub mod lengths;
 pub mod package_field;
 pub mod prove;
+pub mod quick_look;
 pub mod rank;
 pub mod read_back;
 pub mod readers;
@@ -34,9 +35,9 @@ pub mod witnesses;
 pub mod write;
 
 /// All entries, in the order of the specification, then rank, write package, those
-/// of bundles, the check of perkcheck, demand 3, completeness, and packages and
-/// bundles that are read back. A static is compiled with this crate alone, a
-/// constant with each that uses it.
+/// of bundles, quick look, the check of perkcheck, demand 3, completeness, quick look
+/// beside constraints, and packages and bundles that are read back. A static is
+/// compiled with this crate alone, a constant with each that uses it.
 pub static ALL: &[Entry] = &[
     field::SUM,
     field::PRODUCT,
@@ -52,9 +53,11 @@ pub static ALL: &[Entry] = &[
     bundles::read::READ_BUNDLE,
     bundles::join::JOIN_BUNDLES,
     bundles::look::LOOK_BEFORE_JOIN,
+    quick_look::QUICK_LOOK,
     check::CHECK,
     demand_3::BOTH_FACTS,
     completeness::COMPLETENESS,
+    quick_look::tops::BESIDE_TOPS,
     read_back::READ_BACK,
     bundles::package::PACKAGE_AS_BUNDLE,
     bundles::refused::REFUSED_BUNDLES,
@@ -65,6 +68,9 @@ pub static ALL: &[Entry] = &[
 
 /// The answer without a refusal; of verify and check, Accepted.
 const DONE: u32 = 0;
+
+/// 7: "a position is 2^d or more".
+const TOO_LARGE: u32 = 7;
 
 /// 8: "some top coefficient of the n + m polynomials isn't zero".
 const TOP: u32 = 8;
@@ -88,6 +94,9 @@ const GROUPS_DIFFER: u32 = 22;
 
 /// The answer Rejected of verify and check.
 const REJECTED: u32 = 255;
+
+/// The answer of quick look where some position is no column or came before.
+const OFFENDER: u32 = 255;
 
 /// Added to a refusal where one entry stands for calls of several, of which no
 /// case here is refused.

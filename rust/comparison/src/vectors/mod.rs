@@ -8,12 +8,14 @@
 //! - `files`: the check files;
 //! - `ranks`: the file of ranks, and keys whose rows lean on each other;
 //! - `writes`: the file of packages, and packages that are written again;
-//! - `bundles`: the file of bundles, and packages as bundles.
+//! - `bundles`: the file of bundles, and packages as bundles;
+//! - `quick_looks`: the file of quick looks, and the positions of text files.
 
 mod bundles;
 mod calls;
 mod files;
 pub mod list;
+mod quick_looks;
 mod ranks;
 pub mod text;
 mod writes;
@@ -52,11 +54,17 @@ fn text_name(n: usize, m: usize) -> String {
 }
 
 /// The files that are compared: the text files, that of ranks, that of packages,
-/// that of bundles, and the check file of key A.
+/// that of bundles, that of quick looks, and the check file of key A.
 pub fn names() -> Vec<String> {
     let texts = SIZES.iter().map(|&(n, m)| text_name(n, m));
-    let others = [ranks::NAME, writes::NAME, bundles::NAME, KEY_A].map(str::to_string);
-    texts.chain(others).collect()
+    let others = [
+        ranks::NAME,
+        writes::NAME,
+        bundles::NAME,
+        quick_looks::NAME,
+        KEY_A,
+    ];
+    texts.chain(others.map(str::to_string)).collect()
 }
 
 /// Files in the directory that are not compared.
@@ -147,6 +155,7 @@ pub fn compare(
         ranks::NAME => comparison.ranks(content),
         writes::NAME => comparison.writes(content),
         bundles::NAME => comparison.bundles(content),
+        quick_looks::NAME => comparison.quick_looks(content),
         _ => comparison.text_file(name, content),
     };
     let mut outcome = comparison.outcome;
@@ -171,7 +180,9 @@ impl Comparison<'_> {
         self.witness(&text, &text.wrong)?;
         self.prove(&text, &text.wrong, Some(&text.wrong_prove))?;
         self.files(&text)?;
-        self.leaning(&text)
+        self.leaning(&text)?;
+        self.quick_look_at(&text, &text.solving)?;
+        self.quick_look_at(&text, &text.wrong)
     }
 
     /// The check file of key A.

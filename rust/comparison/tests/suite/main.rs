@@ -11,6 +11,7 @@ mod largest;
 mod leaning;
 mod look_before_join;
 mod program;
+mod quick_look;
 mod rank;
 mod read_bundle;
 mod vectors;

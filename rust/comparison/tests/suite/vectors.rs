@@ -5,6 +5,7 @@ use comparison::case::Entry;
 use comparison::entries::bundles::join::JOIN_BUNDLES;
 use comparison::entries::bundles::look::LOOK_BEFORE_JOIN;
 use comparison::entries::bundles::read::READ_BUNDLE;
+use comparison::entries::quick_look::QUICK_LOOK;
 use comparison::entries::{
     check, constraints, field, package_field, prove, rank, readers, values, write, ALL,
 };
@@ -190,10 +191,10 @@ fn every_word_altered() {
     }
 }
 
-/// Alters each word of a file of calls, in the first of its done calls, and each
-/// answer of its refused calls: each is found. Parts that are left out are, too.
-/// How many words were altered.
-fn every_word_of_calls_altered(name: &str, cases: usize) -> usize {
+/// Alters each word of a file of calls, in the first of its done calls, but for
+/// the lines with a free name, and each answer of its refused calls: each is found.
+/// Parts that are left out are, too. How many words were altered.
+fn every_word_of_calls_altered(name: &str, cases: usize, free: &[&str]) -> usize {
     let whole = text(name);
     let refused = whole.find("refused ").expect("refused calls");
     let first = whole.match_indices("case ").nth(cases).expect("a case").0;
@@ -203,8 +204,10 @@ fn every_word_of_calls_altered(name: &str, cases: usize) -> usize {
     let mut words_altered = 0;
     for (index, line) in content.lines().enumerate() {
         let words: Vec<&str> = line.split(' ').collect();
-        // Names are free, and a refused call may be refused with other words.
-        let free = words[0] == "case" || index >= done_lines && words[0] != "answer";
+        // Names of parts are free, and a refused call may be refused with other
+        // words.
+        let named = words[0] == "case" || free.contains(&words[0]);
+        let free = named || index >= done_lines && words[0] != "answer";
         for word in (1..words.len()).filter(|_| !free) {
             let other = with_line(&content, index, &altered(line, word));
             assert!(
@@ -229,14 +232,60 @@ fn every_word_of_calls_altered(name: &str, cases: usize) -> usize {
 
 #[test]
 fn every_word_of_ranks_altered() {
-    let words = every_word_of_calls_altered("rank.txt", 12);
+    let words = every_word_of_calls_altered("rank.txt", 12, &[]);
     assert!(words > 100, "{words}");
 }
 
 #[test]
 fn every_word_of_packages_altered() {
-    let words = every_word_of_calls_altered("write.txt", 6);
+    let words = every_word_of_calls_altered("write.txt", 6, &[]);
     assert!(words > 100, "{words}");
+}
+
+#[test]
+fn every_word_of_quick_looks_altered() {
+    // After the first offender other positions give the same answer.
+    let words = every_word_of_calls_altered("quick_look.txt", 60, &["positions"]);
+    assert!(words > 150, "{words}");
+}
+
+#[test]
+fn every_position_of_an_order_altered() {
+    let name = "quick_look.txt";
+    let content = text(name);
+    let lines: Vec<&str> = content.lines().collect();
+    let mut altered_positions = 0;
+    for (index, pair) in lines.windows(2).enumerate() {
+        let [line, "answer 0"] = pair else {
+            continue;
+        };
+        let words: Vec<&str> = line.split(' ').collect();
+        for word in 1..words.len().min(9) {
+            let other = with_line(&content, index, &altered(line, word));
+            let found = difference(name, &other).unwrap_or_default();
+            let place = format!("answer, line {}, ", index + 2);
+            assert!(found.starts_with(&place), "line {}: {found}", index + 1);
+            altered_positions += 1;
+        }
+    }
+    assert!(altered_positions > 50, "{altered_positions}");
+}
+
+#[test]
+fn other_parts_of_quick_looks() {
+    let name = "quick_look.txt";
+    let content = text(name);
+    // An index where all is well, none of an offender, and another answer.
+    for (old, new) in [
+        ("answer 0\n", "answer 0\nindex 0\n"),
+        ("answer 255\nindex 2\n", "answer 255\n"),
+        ("answer 255\nindex 2\n", "answer 3\n"),
+        ("positions 2 0 1\n", "positions 2 0 1 3\n"),
+        ("positions_length 0\n", "positions_length 1\n"),
+    ] {
+        assert!(content.contains(old), "{old}");
+        assert!(difference(name, &content.replacen(old, new, 1)).is_some());
+    }
 }
 
 #[test]
@@ -537,6 +586,7 @@ fn wrong_outputs() {
         changed!(JOIN_BUNDLES, "groups"),
         changed!(LOOK_BEFORE_JOIN, "length"),
         changed!(LOOK_BEFORE_JOIN, "groups"),
+        changed!(QUICK_LOOK, "index"),
         changed!(readers::READ_PACKAGE, "n"),
         changed!(readers::READ_PACKAGE, "m"),
         changed!(readers::READ_PACKAGE, "serial"),

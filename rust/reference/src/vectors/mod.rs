@@ -6,6 +6,7 @@ mod cases;
 mod faults;
 mod fields;
 mod leaning;
+pub mod quick_look;
 pub mod rank;
 mod serials;
 mod targets;
@@ -35,6 +36,8 @@ pub fn all() -> Vec<File> {
         files.push((text_name(n, m), text::text(&sample(n, m)).into_bytes()));
     }
     files.push((rank::NAME.to_string(), rank::text().into_bytes()));
+    let name = quick_look::NAME.to_string();
+    files.push((name, quick_look::text().into_bytes()));
     files.push((write::NAME.to_string(), write::text().into_bytes()));
     files.push((bundle::NAME.to_string(), bundle::text().into_bytes()));
     files.extend(Cases::all().files());

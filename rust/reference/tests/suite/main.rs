@@ -8,6 +8,7 @@ mod field_cases;
 mod fields;
 mod join;
 mod proofs;
+mod quick_look;
 mod rank;
 mod readers;
 mod refusals;

@@ -2,10 +2,11 @@
 //! that the program writes, and they hold what the entries answer.
 
 use crate::large;
+use crate::quick_look::by_sets;
 use reference::large_field::COORDINATES;
 use reference::package::{tag, words, CHECK_FILE_TAGS};
 use reference::samples::{honest_masks, honest_q, independent, joined_rows, solved, Sample};
-use reference::vectors::{all, bundle, rank, text_name, write, Cases, SIZES, TARGETS};
+use reference::vectors::{all, bundle, quick_look, rank, text_name, write, Cases, SIZES, TARGETS};
 use reference::{
     judge_check_file, perkcheck_line, read_package, BundleContents, Contents, Joined, Key, Refusal,
     Refused,
@@ -239,6 +240,60 @@ fn the_file_of_ranks_holds_the_answers() {
     );
     assert!(refused.keys().eq(&[1, 2, 3, 4]), "{refused:?}");
     assert!(refused.values().all(|&count| count >= 4), "{refused:?}");
+}
+
+/// Compares a part of the file `quick_look.txt` with what the entry answers, and
+/// with the answer by sets: the refusal, else 0 or 255, and the index.
+fn compare_look_at(text: &Text, name: &str) -> (u32, Option<usize>) {
+    let (n, number) = (text.number("n"), text.number("answer") as u32);
+    if name.starts_with("refused ") {
+        let positions = Text::bytes(&lent(text, "positions", "bytes"));
+        let answer = reference::quick_look(n, &positions).map_err(Refusal::number);
+        assert_eq!(answer, Err(number), "{name}");
+        return (number, None);
+    }
+    let positions = Text::bytes(&text.lines("positions")[0]);
+    let index = text.lines("index").first().map(|_| text.number("index"));
+    let expected = if index.is_some() { 255 } else { 0 };
+    assert_eq!(number, expected, "{name}");
+    assert_eq!(reference::quick_look(n, &positions), Ok(index), "{name}");
+    assert_eq!(by_sets(n, &positions), index, "{name}");
+    (number, index)
+}
+
+#[test]
+fn the_file_of_quick_looks_holds_the_answers() {
+    let mut answers: BTreeMap<u32, usize> = BTreeMap::new();
+    // The sizes with an order, and the places of offenders of each size.
+    let (mut well, mut offenders) = (BTreeSet::new(), BTreeSet::new());
+    let (mut names, mut refused) = (BTreeSet::new(), false);
+    for (name, text) in parts(quick_look::NAME) {
+        let (number, index) = compare_look_at(&text, &name);
+        let n = text.number("n");
+        match (number, index) {
+            (0, None) => {
+                well.insert(n);
+            }
+            (255, Some(index)) => {
+                offenders.insert((n, index));
+            }
+            _ => refused = true,
+        }
+        assert_eq!(name.starts_with("refused "), refused, "{name}");
+        *answers.entry(number).or_default() += 1;
+        assert!(names.insert(name.clone()), "{name} is there twice");
+    }
+    for n in quick_look::SIZES {
+        assert!(well.contains(&n), "{n}");
+        for place in [0, n / 2, n - 1] {
+            assert!(offenders.contains(&(n, place)), "{n}, {place}");
+        }
+    }
+    assert!(answers.keys().eq(&[0, 1, 3, 255]), "{answers:?}");
+    assert!(answers.values().all(|&count| count >= 10), "{answers:?}");
+    assert!(answers[&255] >= 150, "{answers:?}");
+    let size = stored_text(quick_look::NAME).len();
+    assert!(size < 30_000, "{size} bytes");
 }
 
 /// The words or bytes of a slice of a refused call, as many as its length says.

@@ -1,68 +1,63 @@
-use mathlib.Core.Path.{subst}
+use mathlib.Core.Path.{_≡_, sym, _∙_}
 use mathlib.Core.Bool.{Bool}
 use mathlib.Core.List.{List, [], _∷_}
-use borrow.Author.Tests.{lt-ltb, le-ltb, le-leb, lt-leb, eq-eqb, ne-eqb}
-use lib.Dec.{ltb, leb, eqb}
+use Prim.Native.Nat.{ℕ}
+use borrow.Author.Tests.{le-leb, lt-leb, eq-eqb, ne-eqb}
+use lib.Dec.{leb, eqb}
 use Rattle.refusal.specs.Answer.{firstOf}
-use Rattle.refusal.proofs.Answers.{pass, stop}
-use Rattle.field.specs.declared.Level.{Level}
+use Rattle.refusal.proofs.Answers.{pass, stop, after-refused, after-done}
 use Rattle.field.specs.Level.{levelAt}
 use Rattle.key.specs.declared.Key.{Key}
-use Rattle.key.specs.Key.{sizes}
-use Prim.Native.Nat.{ℕ, _≤_, _<_}
-use mathlib.Core.Path.{_≡_, sym, _∙_}
+use Rattle.key.specs.Key.{sizeN, sizes}
 use borrow.Author.Needs.{needs}
 use Rattle.key.proofs.Key.sizes.Statement.{statement}
 use Rattle.key.proofs.Key.sizes.Tie as tie
 
--- the rows that are left after each test
-abbrev rows3 : Key → List (Bool × ℕ)
-rows3 k = (leb (k .n) (k .m), 2) ∷ []
+-- the rows of m, and those that are left after the first
+abbrev last : Key → List (Bool × ℕ)
+last k = (leb (k .n) (k .m), 2) ∷ []
 
-abbrev rows2 : Key → List (Bool × ℕ)
-rows2 k = (eqb (k .m) 0, 2) ∷ rows3 k
+abbrev rows : Key → List (Bool × ℕ)
+rows k = (eqb (k .m) 0, 2) ∷ last k
 
-abbrev rows1 : Level → Key → List (Bool × ℕ)
-rows1 l k = (ltb (l .most) (k .n), 1) ∷ rows2 k
-
-past1 : (c : tie.Else1) → let a = c .before .args in firstOf (sizes (levelAt (a .level)) (a .self)) ≡ firstOf (rows1 (levelAt (a .level)) (a .self))
-past1 c = let a = c .before .args in pass 1 (rows1 (levelAt (a .level)) (a .self)) (le-ltb (a .self .n) 2 (c .if1 .left))
-
-past2 : (c : tie.Else2) → let a = c .before .before .before .args in firstOf (sizes (levelAt (a .level)) (a .self)) ≡ firstOf (rows2 (a .self))
-past2 c =
+-- past the rows of n
+passed : (c : tie.After-enum-told2) → let a = c .before .before .before .args in firstOf (sizes (levelAt (a .level)) (a .self)) ≡ firstOf (rows (a .self))
+passed c =
     let a = c .before .before .before .args in
-    past1 (c .before .before) ∙ pass 1 (rows2 (a .self)) (le-ltb (levelAt (a .level) .most) (a .self .n) (subst (λ (l : Level). a .self .n ≤ l .most) (c .before .of .ensures) (c .if2 .left)))
+    after-done (sizeN (levelAt (a .level)) (a .self .n)) (rows (a .self)) (sym (c .before .before .size-n .ensures) ∙ c .enum-told2 .given .1)
 
-past3 : (c : tie.Else3) → let a = c .before .before .before .before .args in firstOf (sizes (levelAt (a .level)) (a .self)) ≡ firstOf (rows3 (a .self))
-past3 c = let a = c .before .before .before .before .args in past2 (c .before) ∙ pass 2 (rows3 (a .self)) (ne-eqb (a .self .m) 0 (c .if3 .left))
+-- past the first of m
+past : (c : tie.Else1) → let a = c .before .before .before .before .args in firstOf (sizes (levelAt (a .level)) (a .self)) ≡ firstOf (last (a .self))
+past c = let a = c .before .before .before .before .args in passed (c .before) ∙ pass 2 (last (a .self)) (ne-eqb (a .self .m) 0 (c .if1 .left))
+
+size-n-requires : tie.Need-size-n-requires
+size-n-requires c κs = search needs
+
+enum-told : tie.Need-enum-told
+enum-told c = search needs
 
 returns : tie.Need-returns
 returns c =
-    let k = c .before .args .self in
-    sym (stop 1 (rows1 (levelAt (c .before .args .level)) k) (lt-ltb (k .n) 2 (c .if1 .taken)))
+    let a = c .before .before .before .args in
+    after-refused (sizeN (levelAt (a .level)) (a .self .n)) (rows (a .self)) (c .before .before .size-n .ensures) (c .enum-told .given .1)
 
-of-requires : tie.Need-of-requires
-of-requires c κs = search needs
+enum-told-2 : tie.Need-enum-told-2
+enum-told-2 c = search needs
 
 returns-2 : tie.Need-returns-2
 returns-2 c =
-    let k = c .before .before .before .args .self in
-    sym (past1 (c .before .before) ∙ stop 1 (rows2 k) (lt-ltb _ (k .n) (subst (λ (l : Level). l .most < k .n) (c .before .of .ensures) (c .if2 .taken))))
+    let k = c .before .before .before .before .args .self in
+    sym (passed (c .before) ∙ stop 2 (last k) (eq-eqb (k .m) 0 (c .if1 .taken)))
 
 returns-3 : tie.Need-returns-3
 returns-3 c =
-    let k = c .before .before .before .before .args .self in
-    sym (past2 (c .before) ∙ stop 2 (rows3 k) (eq-eqb (k .m) 0 (c .if3 .taken)))
+    let k = c .before .before .before .before .before .args .self in
+    sym (past (c .before) ∙ stop 2 [] (le-leb (k .n) (k .m) (c .if2 .taken)))
 
 returns-4 : tie.Need-returns-4
 returns-4 c =
     let k = c .before .before .before .before .before .args .self in
-    sym (past3 (c .before) ∙ stop 2 [] (le-leb (k .n) (k .m) (c .if4 .taken)))
-
-returns-5 : tie.Need-returns-5
-returns-5 c =
-    let k = c .before .before .before .before .before .args .self in
-    sym (past3 (c .before) ∙ pass 2 [] (lt-leb (k .n) (k .m) (c .if4 .left)))
+    sym (past (c .before) ∙ pass 2 [] (lt-leb (k .n) (k .m) (c .if2 .left)))
 
 pub sizes-spec : {M : Type 1} → statement M
-sizes-spec = tie.close (tie.spec returns of-requires returns-2 returns-3 returns-4 returns-5)
+sizes-spec = tie.close (tie.spec size-n-requires enum-told returns enum-told-2 returns-2 returns-3 returns-4)

@@ -1,0 +1,5 @@
+pub mod Bits
+pub mod First
+pub mod Distinct
+pub mod Told
+pub mod Examples

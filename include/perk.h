@@ -225,8 +225,8 @@ uint32_t perk_rank(size_t n, size_t m, const uint16_t *h, size_t h_len, uint16_t
  *   2 0 5        255, index 2: 5 is too large
  *
  * How to use it: look once the positions are there, and fetch correlations where the result is 0. Where it is PERK_OFFENDER
- * the positions solve no key, and perk_prove would refuse them with 7, 16 or 8; send them back with the index. 0 says
- * nothing of H, x and y: whether an order solves a key is for perk_prove to say.
+ * the positions solve no key, and perk_prove would refuse them, with 7, 16 or 8 where nothing else is refused before; send
+ * them back with the index. 0 says nothing of H, x and y: whether an order solves a key is for perk_prove to say.
  *
  * Time: it tells the index. The positions are read from the first on, and none after the first offender; jumps depend on
  * them, as is asked of this function. So it is not among the functions of which it is tested that no jump and no address

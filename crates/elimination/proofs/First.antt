@@ -59,11 +59,6 @@ unfolding count
 count-cong zero t u h = refl
 count-cong (suc m) t u h = ap₂ (λ (x : ℕ) (b : Bool). x + cond b 1 0) (count-cong m t u (λ i l. h i (omega arith))) (h m (omega arith))
 
-pub count-none : (m : ℕ) → count m (λ i. false) ≡ 0
-unfolding count
-count-none zero = refl
-count-none (suc m) = omega (arith, count-none m)
-
 -- one index more passes
 pub count-more : (m p : ℕ) (u : ℕ → Bool) → p < m → u p ≡ false → count m (λ i. u i || eqb i p) ≡ count m u + 1
 unfolding count

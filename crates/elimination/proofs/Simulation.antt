@@ -11,7 +11,6 @@ use lib.ListN.{length, getD, set}
 use lib.Seq.{getD-set-same, getD-set-other}
 use borrow.Author.Tests.{lt-ltb, le-ltb, eq-eqb, ne-eqb, eqb-true, eqb-false, leb-false}
 use Rattle.lists.specs.Count.{count}
-use Rattle.field.specs.Ring.{Ring}
 use Rattle.field.specs.RingLaws.{mul-zero, zero-mul}
 use Rattle.field.specs.declared.Level.{Level}
 use Rattle.field.specs.Level.{F}
@@ -20,8 +19,9 @@ use Rattle.galois.specs.Inverse.{inverse}
 use Rattle.elimination.specs.Elimination.{State, pivot, taken, column, after, rank}
 use Rattle.elimination.specs.Rank.{isZero, entries, eliminated, clearedWords, rankOf}
 use Rattle.elimination.specs.Steps.{Grid, entryAt, timesWord, clearedWord, unused}
-use Rattle.elimination.proofs.First.{First, first-unique, first-cong, count-none, count-more}
-use Rattle.elimination.proofs.Dependence.{Inverting, Good, after-good}
+use Rattle.lists.proofs.Count.{count-none}
+use Rattle.elimination.proofs.First.{First, first-unique, first-cong, count-more}
+use Rattle.elimination.proofs.Dependence.{Inverting, after-good}
 use Rattle.elimination.proofs.Words.{small-word, word-small, word-sum, times-word}
 use Rattle.elimination.proofs.Grids.{grid-list}
 
@@ -41,7 +41,7 @@ module _ (l : Level) (n m : ℕ) (h₀ : List ℕ) where
   starts used size words none = record {
     grid = record { size = size; at = λ i j a b. sym (word-small l (entryAt n h₀ i j) (words (i * n + j))) };
     marks = λ i. eq-eqb (getD used i 0) 0 (none i);
-    number = sym (count-none m);
+    number = sym (count-none m (λ i. false) (λ i l. refl));
   }
 
   pub finished : (h used : List ℕ) (r : ℕ) → Matches l n m (eliminated l n m h₀ n) h used r → (r ≡ rankOf l n m h₀) × (h ≡ clearedWords l n m h₀)

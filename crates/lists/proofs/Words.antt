@@ -6,10 +6,16 @@ use Prim.Native.Nat.{ℕ, zero, suc, _+_, _≤_, _<_}
 use native.Mathlib.Decide.{decLt}
 use native.Mathlib.Numerals.{add-one}
 use native.Mathlib.Omega.{arith}
-use lib.ListN.{length, getD, take, drop, set, drop-of-length-le, length-append, length-drop, List·getD-eq-default}
+use lib.ListN.{length, getD, take, drop, set, replicate, drop-of-length-le, length-append, length-drop, List·getD-eq-default}
 use borrow.Author.Count.{below-more}
 use lib.Seq.{take-all, take-suc, length-take-le, getD-take, getD-drop, getD-set-same, getD-set-other, paste}
 use Rattle.lists.specs.Words.{part, put, all}
+
+-- a list of zeros
+pub zeros : (n i : ℕ) → _≡_ {A = ℕ} (getD (replicate n 0) i 0) 0
+zeros zero i = refl
+zeros (suc n) zero = refl
+zeros (suc n) (suc i) = zeros n i
 
 -- word k of a part
 pub part-at : (i n : ℕ) (s : List ℕ) (k : ℕ) → k < n → getD (part i n s) k 0 ≡ getD s (i + k) 0

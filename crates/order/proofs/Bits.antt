@@ -12,6 +12,7 @@ use lib.Dec.{eqb}
 use lib.ListN.{length, getD, set, replicate}
 use lib.Pow.{pow-pos, pow-lt, pow-add, shl-shr}
 use lib.Seq.{getD-set-same, getD-set-other}
+use Rattle.lists.proofs.Words.{zeros}
 use Rattle.order.specs.Seen.{has}
 
 -- digit a of 2^b
@@ -62,8 +63,3 @@ has-add seen j k h = go (ℕ-discrete (k / 64) (j / 64))
 pub has-none : (n k : ℕ) → has (replicate n 0) k ≡ false
 unfolding has
 has-none n k = ap (λ x. eqb (x / 2 ^ (k % 64) % 2) 1) (zeros n (k / 64)) ∙ ap (λ x. eqb (x % 2) 1) (div-eq-of-lt (pow-pos (k % 64)))
-  where
-    zeros : (n i : ℕ) → _≡_ {A = ℕ} (getD (replicate n 0) i 0) 0
-    zeros zero i = refl
-    zeros (suc n) zero = refl
-    zeros (suc n) (suc i) = zeros n i

@@ -1,35 +1,15 @@
 -- n positions are an order exactly when each is a column that did not come before.
-use mathlib.Core.Path.{_≡_, refl, sym, ap, ap₂, _∙_}
+use mathlib.Core.Path.{_≡_, refl, sym, ap, _∙_}
 use mathlib.Core.Bool.{Bool, true, false, cond}
 use mathlib.Core.Logic.{_↔_}
 use Prim.Native.Nat.{ℕ, zero, suc, _+_, _-_, _≤_, _<_}
 use native.Mathlib.Omega.{arith}
-use borrow.Author.Tests.{lt-ltb, le-ltb, eq-eqb, ne-eqb, eqb-true, eqb-false}
+use borrow.Author.Tests.{lt-ltb, le-ltb, eq-eqb, ne-eqb, eqb-true}
 use lib.Dec.{ltb, eqb}
 use Rattle.lists.specs.Count.{count}
+use Rattle.lists.proofs.Count.{count-none, count-full, count-at}
 use Rattle.constraints.specs.Order.{Order}
 use Rattle.constraints.proofs.Count.{below-suc, order, order-below}
-
--- no index passes the test, or every one
-pub count-none : (n : ℕ) (test : ℕ → Bool) → ((i : ℕ) → i < n → test i ≡ false) → count n test ≡ 0
-unfolding count
-count-none zero test h = refl
-count-none (suc n) test h = ap₂ (λ (c : ℕ) (b : Bool). c + cond b 1 0) (count-none n test (λ i l. h i (omega arith))) (h n (omega arith))
-
-count-full : (n : ℕ) (test : ℕ → Bool) → ((i : ℕ) → i < n → test i ≡ true) → count n test ≡ n
-unfolding count
-count-full zero test h = refl
-count-full (suc n) test h = ap₂ (λ (c : ℕ) (b : Bool). c + cond b 1 0) (count-full n test (λ i l. h i (omega arith))) (h n (omega arith)) ∙ omega arith
-
--- an index that passes is counted after those before it
-pub count-at : (n : ℕ) (test : ℕ → Bool) (i : ℕ) → i < n → test i ≡ true → count i test + 1 ≤ count n test
-unfolding count
-count-at zero test i l e = absurd (omega arith)
-count-at (suc n) test i l e = last (eqb i n) refl (count-at n test i)
-  where
-    last : (c : Bool) → eqb i n ≡ c → (i < n → test i ≡ true → count i test + 1 ≤ count n test) → count i test + 1 ≤ count n test + cond (test n) 1 0
-    last false h before = omega (arith, before (omega (arith, eqb-false i n h)) e)
-    last true h before = omega (arith, ap (λ k. count k test) (eqb-true i n h), ap {B = ℕ} (λ b. cond b 1 0) (ap test (sym (eqb-true i n h)) ∙ e))
 
 -- no two of the n positions are equal
 abbrev pub Distinct : ℕ → (ℕ → ℕ) → Type 0

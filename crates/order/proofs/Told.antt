@@ -1,7 +1,7 @@
 -- What quick_look's answer tells, proved.
 use mathlib.Core.Path.{_≡_, refl, sym, ap, _∙_, subst}
 use mathlib.Core.Bool.{Bool, true, false, not, cond, _||_, _&&_, false≢true}
-use mathlib.Core.Logic.{_↔_}
+use mathlib.Core.Logic.{_↔_, Iff·trans}
 use mathlib.Core.List.{List, [], _∷_}
 use Prim.Native.Nat.{ℕ, _+_, _^_, _≤_, _<_}
 use native.Mathlib.Decide.{decLt}
@@ -11,6 +11,7 @@ use lib.Dec.{ltb, eqb}
 use lib.ListN.{length}
 use Rattle.lists.specs.Lent.{long}
 use Rattle.lists.specs.Count.{count}
+use Rattle.lists.proofs.Count.{count-none, count-at}
 use Rattle.lists.proofs.Lent.{each-long}
 use Rattle.refusal.specs.Answer.{firstOf, written}
 use Rattle.refusal.specs.declared.Refusal.{Refusal}
@@ -41,7 +42,7 @@ use Rattle.order.specs.declared.Looked.the-variants.{Well, Offender, Ref
 use Rattle.order.specs.Entry.{noColumn, among, offends, firstOffender, lookedAt, lookedAs, lookRows, lookOutcome}
 use Rattle.order.specs.Tells.{Fits, IsFirst, NoneTooLarge, ColumnTopsZero, Tells}
 use Rattle.order.proofs.First.{Found, found}
-use Rattle.order.proofs.Distinct.{count-none, count-at, order-distinct}
+use Rattle.order.proofs.Distinct.{order-distinct}
 
 -- columns are below n
 column-below : (n p : ℕ) → codeOf n p ≡ Column → p < n
@@ -54,7 +55,7 @@ column-below n p e = go (ltb p n) (ltb p (2 ^ degree n)) refl e
     go false false f g = absurd (false≢true (sym (ap noColumn g)))
 
 -- the case of an answer, and its index
-abbrev isWell : Looked → Bool
+abbrev pub isWell : Looked → Bool
 isWell Well = true
 isWell (Offender i) = false
 isWell (Refused q) = false
@@ -145,10 +146,7 @@ module _ (l : Level) (n m : ℕ) (lent : KeySlices) (positions v : List ℕ) whe
   unfolding polynomial constraint column
   column-alone j h = join-left n _ _ j h ∙ sym (join-left n _ _ j h)
 
--- one equivalence after another, and under what both sides need
-through : {A B C : Type 0} → A ↔ B → B ↔ C → A ↔ C
-through a b = (λ x. b .0 (a .0 x), λ x. a .1 (b .1 x))
-
+-- an equivalence under what both sides need, and three in a row
 under : {A B D : Type 0} → (D → A ↔ B) → (D × A) ↔ (D × B)
 under a = (λ x. (x .0, a (x .0) .0 (x .1)), λ x. (x .0, a (x .0) .1 (x .1)))
 
@@ -200,11 +198,11 @@ module _ (number n : ℕ) (positions : List ℕ) where
   -- the answer, past the refusals
   looked-order : (lookOutcome (levelAt number) n positions ≡ Well) ↔ ((firstOf (lookRows (levelAt number) n positions) ≡ answer.Done) × Order n (positionAt positions))
   unfolding lookOutcome
-  looked-order = through (as-well (firstOf (lookRows (levelAt number) n positions)) (lookedAt n (firstOffender n positions))) (under (λ d. well-order n positions))
+  looked-order = Iff·trans (as-well (firstOf (lookRows (levelAt number) n positions)) (lookedAt n (firstOffender n positions))) (under (λ d. well-order n positions))
 
   looked-first : (i : ℕ) → (lookOutcome (levelAt number) n positions ≡ Offender i) ↔ ((firstOf (lookRows (levelAt number) n positions) ≡ answer.Done) × IsFirst n positions i)
   unfolding lookOutcome
-  looked-first i = through (as-offender (firstOf (lookRows (levelAt number) n positions)) (lookedAt n (firstOffender n positions)) i) (under (λ d. offender-first n positions i))
+  looked-first i = Iff·trans (as-offender (firstOf (lookRows (levelAt number) n positions)) (lookedAt n (firstOffender n positions)) i) (under (λ d. offender-first n positions i))
 
   -- where constraints is done, none is too large and no refusal applies here
   done-fine : (m : ℕ) (lent : KeySlices) (u v t q : List ℕ) → firstOf (constraintsRows (levelAt number) (record { n = n; m = m }) lent positions u v t q) ≡ answer.Done → Fine (levelAt number) n positions × NoneTooLarge n positions
@@ -216,10 +214,10 @@ module _ (number n : ℕ) (positions : List ℕ) where
 
   pub tells : {IsWell : Type 0} {IsOffender : ℕ → Type 0} → (IsWell ↔ (lookOutcome (levelAt number) n positions ≡ Well)) → ((i : ℕ) → IsOffender i ↔ (lookOutcome (levelAt number) n positions ≡ Offender i)) → Tells (levelAt number) n positions IsWell IsOffender
   tells well offender = record {
-    order = through well looked-order;
-    first = λ i. through (offender i) (looked-first i);
-    tops = λ m lent v. through well (through looked-order (through (under (λ d. tops-order (fine (levelAt number) n positions d) m lent v)) three));
-    left = λ m lent u v t q e. through well (through looked-order (settled m lent u v t q e));
+    order = Iff·trans well looked-order;
+    first = λ i. Iff·trans (offender i) (looked-first i);
+    tops = λ m lent v. Iff·trans well (Iff·trans looked-order (Iff·trans (under (λ d. tops-order (fine (levelAt number) n positions d) m lent v)) three));
+    left = λ m lent u v t q e. Iff·trans well (Iff·trans looked-order (settled m lent u v t q e));
   }
     where
       settled : (m : ℕ) (lent : KeySlices) (u v t q : List ℕ) → firstOf (constraintsRows (levelAt number) (record { n = n; m = m }) lent positions u v t q) ≡ answer.Done

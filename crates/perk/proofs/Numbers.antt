@@ -1,6 +1,6 @@
 -- Which answer and which verdict a number tells.
 use mathlib.Core.Path.{_≡_, refl, sym, ap, _∙_}
-use mathlib.Core.Logic.{_↔_}
+use mathlib.Core.Logic.{_↔_, Iff·trans}
 use mathlib.Core.Bool.{Bool, true, false}
 use mathlib.Core.List.{List, [], _∷_}
 use Prim.Native.Nat.{ℕ, _<_}
@@ -16,10 +16,6 @@ use Rattle.field.specs.declared.Level.{Level}
 use Rattle.key.specs.declared.Key.{Key}
 use Rattle.key.specs.Key.{KeySlices, Leans}
 use Rattle.perk.specs.Answered.{answered}
-
--- one equivalence after another
-pub both : {A B C : Type 0} → A ↔ B → B ↔ C → A ↔ C
-both f g = (λ a. g .0 (f .0 a), λ c. f .1 (g .1 c))
 
 -- no row has the number of an answer that is no refusal: 0, or 255
 abbrev pub Refusals : List (Bool × ℕ) → Type 0
@@ -63,7 +59,7 @@ module _ {r : Answer} {k : ℕ} (e : k ≡ numberOf r) where
 
 -- and so with 15 of an entry that takes a key
 pub told-leans : {l : Level} {key : Key} {slices : Bool} {lent : KeySlices} {r : Answer} {k : ℕ} → k ≡ numberOf r → Leans l key slices lent (r ≡ refusal 15) → Leans l key slices lent (k ≡ 15)
-told-leans e known = record { fifteen = both (told-refusal e 15 (omega arith)) (known .fifteen) }
+told-leans e known = record { fifteen = Iff·trans (told-refusal e 15 (omega arith)) (known .fifteen) }
 
 zero-accepted : (rows : List (Bool × ℕ)) → Refusals rows → (b : Bool) → verdictNumber (judged (firstOf rows) b) ≡ 0 → judged (firstOf rows) b ≡ Accepted
 zero-accepted [] f true e = refl
@@ -87,7 +83,7 @@ module _ {v : Verdict} {k : ℕ} (e : k ≡ verdictNumber v) (rows : List (Bool 
 
 -- a refusal of the verdict, by its number
 pub turned-leans : {l : Level} {key : Key} {slices : Bool} {lent : KeySlices} {v : Verdict} {k : ℕ} → k ≡ verdictNumber v → Leans l key slices lent (v ≡ turned 15) → Leans l key slices lent (k ≡ 15)
-turned-leans {v = v} e known = record { fifteen = both (λ z. only v (sym e ∙ z), λ d. e ∙ ap verdictNumber d) (known .fifteen) }
+turned-leans {v = v} e known = record { fifteen = Iff·trans (λ z. only v (sym e ∙ z), λ d. e ∙ ap verdictNumber d) (known .fifteen) }
   where
     only : (v : Verdict) → verdictNumber v ≡ 15 → v ≡ turned 15
     only Accepted z = absurd (omega (arith, z))

@@ -1,4 +1,4 @@
-use Prim.Native.Nat.{ℕ, zero, suc, _-_, _≤_, _<_}
+use Prim.Native.Nat.{ℕ, _-_, _≤_, _<_}
 use mathlib.Core.Path.{_≡_, refl, sym, subst}
 use mathlib.Core.Bool.{false}
 use mathlib.Core.Logic.{⊎-elim}
@@ -7,6 +7,7 @@ use lib.ListN.{length, getD, replicate, length-set}
 use borrow.Author.Count.{below-more}
 use Rattle.field.specs.Level.{levelAt}
 use Rattle.field.specs.Word.{word}
+use Rattle.lists.proofs.Words.{zeros}
 use Rattle.field.proofs.Fields.{bounded}
 use Rattle.galois.proofs.Inverse.{level-inverts}
 use Rattle.elimination.specs.Rank.{eliminated}
@@ -18,11 +19,6 @@ use Rattle.elimination.proofs.Simulation.{Matches, fits, starts, passed
 use borrow.Author.Needs.{needs}
 use Rattle.elimination.proofs.eliminate.Statement.{statement}
 use Rattle.elimination.proofs.eliminate.Tie as tie
-
-zeros : (n i : ℕ) → _≡_ {A = ℕ} (getD (replicate n 0) i 0) 0
-zeros zero i = refl
-zeros (suc n) zero = refl
-zeros (suc n) (suc i) = zeros n i
 
 abbrev Inv-loop : tie.InvT-loop
 Inv-loop matrix n m level used rank c₀ r₀ c r = (r ≤ m) × (c ≡ c₀) × ((i : ℕ) → i < r → fits n matrix used c i ≡ false)

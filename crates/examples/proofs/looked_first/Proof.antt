@@ -1,19 +1,12 @@
 use mathlib.Core.Path.{refl, sym, ap, _∙_}
-use mathlib.Core.Bool.{Bool, true, false, false≢true}
+use mathlib.Core.Bool.{true, false, false≢true}
 use borrow.Author.Needs.{needs}
 use Rattle.field.specs.Level.{FIRST}
 use Rattle.key.specs.Key.{keySlices}
-use Rattle.order.specs.declared.Looked.{Looked}
-use Rattle.order.specs.declared.Looked.the-variants.{Well, Offender, Refused}
+use Rattle.order.proofs.Told.{isWell}
 use Rattle.examples.proofs.Driving.{done-well, not-seven, not-sixteen}
 use Rattle.examples.proofs.looked_first.Statement.{statement}
 use Rattle.examples.proofs.looked_first.Tie as tie
-
--- the answer that all is well, told from the others
-abbrev isWell : Looked → Bool
-isWell Well = true
-isWell (Offender i) = false
-isWell (Refused q) = false
 
 quick-look-requires : tie.Need-quick-look-requires
 quick-look-requires c κs = search needs

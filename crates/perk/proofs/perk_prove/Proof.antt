@@ -1,5 +1,5 @@
 use mathlib.Core.Path.{_≡_, ap}
-use mathlib.Core.Logic.{_↔_}
+use mathlib.Core.Logic.{_↔_, Iff·trans}
 use mathlib.Core.List.{List, _++_}
 use Prim.Native.Nat.{ℕ}
 use native.Mathlib.Omega.{arith}
@@ -12,7 +12,7 @@ use Rattle.key.specs.declared.Key.{Key}
 use Rattle.key.specs.Key.{KeySlices}
 use Rattle.prover.specs.Entry.{proveRows, topsRow, proveOutcome}
 use Rattle.prover.specs.Solved.{Solved}
-use Rattle.perk.proofs.Numbers.{told-done, told-refusal, told-leans, both}
+use Rattle.perk.proofs.Numbers.{told-done, told-refusal, told-leans}
 use borrow.Author.Needs.{needs}
 use Rattle.perk.proofs.perk_prove.Statement.{statement}
 use Rattle.perk.proofs.perk_prove.Tie as tie
@@ -37,7 +37,7 @@ done l key lent positions u v r s α t a e n =
 solved : (l : Level) (key : Key) (lent : KeySlices) (positions u v r s α t a : List ℕ) {o : Answer} {left : List ℕ × List ℕ} {k : ℕ} → (o, left) ≡ proveOutcome l key lent positions u v r s α t a → k ≡ numberOf o
     → Solved l key lent positions u v r s α t a (o ≡ Done) (o ≡ refusal 8) (o ≡ refusal 16) → Solved l key lent positions u v r s α t a (k ≡ 0) (k ≡ 8) (k ≡ 16)
 solved l key lent positions u v r s α t a e n known =
-    record { done = both (done l key lent positions u v r s α t a e n) (known .done); eight = both (told-refusal n 8 (omega arith)) (known .eight); sixteen = both (told-refusal n 16 (omega arith)) (known .sixteen) }
+    record { done = Iff·trans (done l key lent positions u v r s α t a e n) (known .done); eight = Iff·trans (told-refusal n 8 (omega arith)) (known .eight); sixteen = Iff·trans (told-refusal n 16 (omega arith)) (known .sixteen) }
 
 returns : tie.Need-returns
 returns c =

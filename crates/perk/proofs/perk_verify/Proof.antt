@@ -2,7 +2,7 @@ use Rattle.refusal.specs.Verdict.{verdictNumber}
 use Rattle.refusal.specs.declared.Verdict.{Verdict}
 use Rattle.refusal.specs.declared.Verdict.the-variants.{Accepted, Rejected}
 use mathlib.Core.Path.{_≡_, ap, _∙_}
-use mathlib.Core.Logic.{_↔_}
+use mathlib.Core.Logic.{_↔_, Iff·trans}
 use mathlib.Core.List.{List}
 use Prim.Native.Nat.{ℕ}
 use native.Mathlib.Omega.{arith}
@@ -12,7 +12,7 @@ use Rattle.key.specs.Key.{KeySlices}
 use Rattle.constraints.specs.Entry.{system}
 use Rattle.checkzero.specs.Slices.{accepts}
 use Rattle.verifier.specs.Entry.{verifyRows, verifyOutcome, Judges}
-use Rattle.perk.proofs.Numbers.{Refusals, told-accepted, told-rejected, turned-leans, both}
+use Rattle.perk.proofs.Numbers.{Refusals, told-accepted, told-rejected, turned-leans}
 use borrow.Author.Needs.{needs}
 use Rattle.perk.proofs.perk_verify.Statement.{statement}
 use Rattle.perk.proofs.perk_verify.Tie as tie
@@ -35,7 +35,7 @@ judges : (l : Level) (key : Key) (lent : KeySlices) (t q Δ masks α a : List �
     → Judges l key lent t q Δ masks α a (v ≡ Accepted) (v ≡ Rejected) → Judges l key lent t q Δ masks α a (k ≡ 0) (k ≡ 255)
 judges l key lent t q Δ masks α a e n known =
     let by = told l key lent t q Δ masks α a e n in
-    record { accepted = both (by .0) (known .accepted); rejected = both (by .1) (known .rejected) }
+    record { accepted = Iff·trans (by .0) (known .accepted); rejected = Iff·trans (by .1) (known .rejected) }
 
 returns : tie.Need-returns
 returns c =

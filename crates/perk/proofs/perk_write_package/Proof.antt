@@ -1,3 +1,4 @@
+use mathlib.Core.Logic.{Iff·trans}
 use mathlib.Core.Path.{_≡_, refl, sym, ap, _∙_}
 use mathlib.Core.Bool.{Bool}
 use mathlib.Core.List.{List}
@@ -14,7 +15,7 @@ use Rattle.writer.specs.declared.Written.{Written}
 use Rattle.writer.specs.declared.Written.the-variants.{Length, Refused}
 use Rattle.writer.specs.Entry.{lengthAs, packageBytes, writeRows, writeOutcome}
 use Rattle.perk.specs.Answered.{lengthOr}
-use Rattle.perk.proofs.Numbers.{both, zero-told, put}
+use Rattle.perk.proofs.Numbers.{zero-told, put}
 use borrow.Author.Needs.{needs}
 use Rattle.perk.proofs.perk_write_package.Statement.{statement}
 use Rattle.perk.proofs.perk_write_package.Tie as tie
@@ -52,7 +53,7 @@ told l key lent serial t a out w old {k = k} e f z = is ∙ ap Length (sym (ap (
 
 -- a refusal of the answer, by its number
 told-leans : {l : Level} {key : Key} {slices : Bool} {lent : KeySlices} (w : Written) (old : ℕ) {r k : ℕ} → (r, k) ≡ lengthOr w old → Leans l key slices lent (w ≡ Refused (record { number = 15 })) → Leans l key slices lent (r ≡ 15)
-told-leans w old {r = r} e known = record { fifteen = both (λ z. only w (sym number ∙ z), λ d. number ∙ ap (λ (x : Written). lengthOr x old .0) d) (known .fifteen) }
+told-leans w old {r = r} e known = record { fifteen = Iff·trans (λ z. only w (sym number ∙ z), λ d. number ∙ ap (λ (x : Written). lengthOr x old .0) d) (known .fifteen) }
   where
     number : r ≡ lengthOr w old .0
     number = ap (λ (p : ℕ × ℕ). p .0) e

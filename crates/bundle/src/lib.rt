@@ -16,7 +16,7 @@ use layout::Step;
 use refusal::Refusal;
 
 // What a bundle says of itself.
-#[derive(Drop)]
+#[derive(Clone, Copy)]
 pub struct Contents {
     pub n: usize,
     pub m: usize,
@@ -24,21 +24,21 @@ pub struct Contents {
 }
 
 // The answer of read_bundle.
-#[derive(Drop)]
+#[derive(Clone, Copy)]
 pub enum Read {
     Fields(Contents),
     Refused(Refusal),
 }
 
 // Where the groups of a bundle start, and how many they are.
-#[derive(Drop)]
+#[derive(Clone, Copy)]
 pub struct Groups {
     pub start: usize,
     pub number: usize,
 }
 
 // The groups, or the refusal.
-#[derive(Drop)]
+#[derive(Clone, Copy)]
 pub enum Found {
     Whole(Groups),
     Refused(Refusal),

@@ -37,7 +37,7 @@ const VALUES: usize = 1524;
 pub const LINE: usize = 96;
 
 // What checking a file answers.
-#[derive(Drop)]
+#[derive(Clone, Copy)]
 pub enum Checked {
     Accepted(Contents),
     Rejected(Contents),

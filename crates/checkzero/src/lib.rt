@@ -88,7 +88,7 @@ pub fn evaluate(a: &[u16], delta: Element, count: usize, level: usize) -> Elemen
 }
 
 // What the mask sum holds at mask k: the power k of the challenge, and the sum of the terms before mask k.
-#[derive(Drop)]
+#[derive(Clone, Copy)]
 struct Running {
     power: Element,
     total: Element,

@@ -122,12 +122,12 @@ module _ {B A : Ring} (φ : Hom B A) (key : Instance B) (d : ℕ) where
     unfolding R.value z factor
     y-same i j = end-product A d (t i) (q i) Δ j d ∙ sym (point_reversed A Δ d (λ k. q i k ⊕ bit A (xor (t i k) (not (digit d k j))) ⊗ Δ))
 
-    column-value : (j : ℕ) → j < n → R.columnValue A n d Hφ xφ yφ t q Δ j ≡ value S t q Δ j
-    unfolding R.columnValue value constraint column
+    column-value : (j : ℕ) → j < n → R.column_value A n d Hφ xφ yφ t q Δ j ≡ value S t q Δ j
+    unfolding R.column_value value constraint column
     column-value j l = ap₂ ◌⊕◌ (sum-sigma A n _ ∙ ap (sigma A n) (λ u i. y-same i j u)) (raise-power A Δ d) ∙ sym (join-left n (column φ key (point A Δ) d ys) (row φ key (point A Δ) d ys) j l)
 
-    check-value : (e : ℕ) → R.checkValue A n d Hφ xφ yφ t q Δ e ≡ value S t q Δ (n + e)
-    unfolding R.checkValue value constraint row x'
+    check-value : (e : ℕ) → R.check_value A n d Hφ xφ yφ t q Δ e ≡ value S t q Δ (n + e)
+    unfolding R.check_value value constraint row x'
     check-value e = ap₂ ◌⊕◌ (sum-sigma A n _ ∙ ap (sigma A n) (λ u i. Hφ e i ⊗ (sum-sigma A n (λ j. xφ j ⊗ R.value A d (t i) (q i) Δ j) ∙ ap (sigma A n) (λ s j. xφ j ⊗ y-same i j s)) u)) (ap (λ p. yφ e ⊗ p) (raise-power A Δ d))
         ∙ sym (join_right n (column φ key (point A Δ) d ys) (row φ key (point A Δ) d ys) e)
 
@@ -145,8 +145,8 @@ digits_same : (n : ℕ) (positions : List ℕ) (i k : ℕ) → digit_of (degree 
 unfolding R.digit witness digit_in
 digits_same n positions i k = refl
 
-pub masked-written : (l : Level) (n m : ℕ) (lent : KeySlices) (positions u : List ℕ) → Bits u → O.maskedWitness n (degree n) positions u ≡ masked_bytes (system_of l n m lent) (witness_of n positions) u
-unfolding O.maskedWitness O.maskedRow masked_bytes masked
+pub masked-written : (l : Level) (n m : ℕ) (lent : KeySlices) (positions u : List ℕ) → Bits u → O.masked_witness n (degree n) positions u ≡ masked_bytes (system_of l n m lent) (witness_of n positions) u
+unfolding O.masked_witness O.masked_row masked_bytes masked
 masked-written l n m lent positions u b = concat_cong n _ _ (λ i a. tab-concat (degree n) _ ∙ concat_cong (degree n) _ _ (λ k c. ap₂ (λ (p q : Bool). cond (xor p q) 1 0 ∷ []) (digits_same n positions i k) (bits-same (degree n) u b i k)))
 
 module _ (l : Level) (n m : ℕ) (lent : KeySlices) where
@@ -193,14 +193,14 @@ module _ (l : Level) (n m : ℕ) (lent : KeySlices) where
     unfolding el
     challenge = ap (λ c. element l (part c l.coordinates Δ)) (mul-zero l.coordinates) ∙ ap (element l) (part-whole l.coordinates Δ e)
 
-    pub column-value-written : (j : ℕ) → j < n → R.columnValue (K l) n d (entry_of l n lent.h) (small_of l lent.x) (small_of l lent.y) (bit_of d t) (element_of l d q) (el l Δ 0) j
+    pub column-value-written : (j : ℕ) → j < n → R.column_value (K l) n d (entry_of l n lent.h) (small_of l lent.x) (small_of l lent.y) (bit_of d t) (element_of l d q) (el l Δ 0) j
         ≡ value (system_of l n m lent) (bits d t) (elements l d q) (element l Δ) j
-    column-value-written j a = (λ s. R.columnValue (K l) n d (λ e i. entry-same e i s) (λ j. small_same lent.x j s) (λ e. small_same lent.y e s) (λ i k. bits-same d t b i k s) (λ i k. element-same q i k s) (challenge s) j)
+    column-value-written j a = (λ s. R.column_value (K l) n d (λ e i. entry-same e i s) (λ j. small_same lent.x j s) (λ e. small_same lent.y e s) (λ i k. bits-same d t b i k s) (λ i k. element-same q i k s) (challenge s) j)
         ∙ column-value (embed l) key d (bits d t) (elements l d q) (element l Δ) j a
 
-    pub check-value-written : (e : ℕ) → R.checkValue (K l) n d (entry_of l n lent.h) (small_of l lent.x) (small_of l lent.y) (bit_of d t) (element_of l d q) (el l Δ 0) e
+    pub check-value-written : (e : ℕ) → R.check_value (K l) n d (entry_of l n lent.h) (small_of l lent.x) (small_of l lent.y) (bit_of d t) (element_of l d q) (el l Δ 0) e
         ≡ value (system_of l n m lent) (bits d t) (elements l d q) (element l Δ) (n + e)
-    check-value-written e = (λ s. R.checkValue (K l) n d (λ e i. entry-same e i s) (λ j. small_same lent.x j s) (λ e. small_same lent.y e s) (λ i k. bits-same d t b i k s) (λ i k. element-same q i k s) (challenge s) e)
+    check-value-written e = (λ s. R.check_value (K l) n d (λ e i. entry-same e i s) (λ j. small_same lent.x j s) (λ e. small_same lent.y e s) (λ i k. bits-same d t b i k s) (λ i k. element-same q i k s) (challenge s) e)
         ∙ check-value (embed l) key d (bits d t) (elements l d q) (element l Δ) e
 
     pub values-written : O.values l n m d lent.h lent.x lent.y t q Δ ≡ value_words l (system_of l n m lent) t q Δ

@@ -34,7 +34,7 @@ use package::{Contents, Read};
 use refusal::{Answer, Refusal, Verdict};
 use writer::Written;
 
-#[derive(Drop)]
+#[derive(Clone, Copy)]
 pub struct Answers {
     pub constraints: Answer,
     pub values: Answer,
@@ -65,7 +65,7 @@ pub fn agreement(
     }
 }
 
-#[derive(Drop)]
+#[derive(Clone, Copy)]
 pub struct Judgement {
     pub prove: Answer,
     pub verify: Verdict,
@@ -99,7 +99,7 @@ pub fn completeness(
     }
 }
 
-#[derive(Drop)]
+#[derive(Clone, Copy)]
 pub struct Stored {
     pub written: Written,
     pub read: Read,
@@ -181,7 +181,7 @@ pub fn written_again(bytes: &[u8], out: &mut [u8]) -> Written
     }
 }
 
-#[derive(Drop)]
+#[derive(Clone, Copy)]
 pub struct Kept {
     pub joined: Joined,
     pub read: bundle::Read,
@@ -219,7 +219,7 @@ pub fn joined_again(bytes: &[u8], out: &mut [u8]) -> Joined
 const LARGEST: usize = 0xffff_ffff_ffff_ffff;
 
 // What a join answers, or how many bytes it needs where there are fewer.
-#[derive(Drop)]
+#[derive(Clone, Copy)]
 pub enum Lent {
     Joined(Joined),
     Short(usize),
@@ -243,7 +243,7 @@ pub fn joined_exactly(first: &[u8], second: &[u8], out: &mut [u8]) -> Lent
 }
 
 // What a driver is told that looks before it proves: what prove answers, the index of an offender, or why the positions were not looked at.
-#[derive(Drop)]
+#[derive(Clone, Copy)]
 pub enum Driven {
     Proved(Answer),
     Offender(usize),

@@ -13,7 +13,7 @@ pub mod small;
 
 // What one level fixes: z^width = z^tap + 1 in F, whose elements are the numbers up to limit;
 // Y^coordinates = Y^power + 1 in K; n is at most most.
-#[derive(Drop)]
+#[derive(Clone, Copy)]
 pub struct Level {
     pub width: usize,
     pub tap: usize,
@@ -71,14 +71,14 @@ const NARROW: usize = 33;
 
 // An element of K: four coordinates to a word, sixteen bits each, in as many words as the level needs; nothing is known of the
 // others. Its functions are told the level, and hand it to the kernels as a constant.
-#[derive(Drop)]
+#[derive(Clone, Copy)]
 pub struct Element {
     pub words: [u64; WORDS],
 }
 
 // A factor of many products: at the first level its multiples by 1, z, z^2 and so on, at the second the factor itself, whose
 // multiples each product makes. It is handed on by value, and the words moved are what it costs.
-#[derive(Drop)]
+#[derive(Clone, Copy)]
 pub struct Multiples {
     pub words: [u64; NARROW],
 }

@@ -19,42 +19,42 @@ use layout::Row;
 use refusal::Refusal;
 
 // The length of a joined bundle, and the number of its groups.
-#[derive(Drop)]
+#[derive(Clone, Copy)]
 pub struct Size {
     pub length: usize,
     pub groups: usize,
 }
 
 // What join_bundles and look_before_join answer.
-#[derive(Drop)]
+#[derive(Clone, Copy)]
 pub enum Joined {
     Size(Size),
     Refused(Refusal),
 }
 
 // The groups that two bundles share: how many, and how many bytes each bundle has of them.
-#[derive(Drop)]
+#[derive(Clone, Copy)]
 pub struct Shared {
     pub number: usize,
     pub length: usize,
 }
 
 // The shared groups, or that two groups with one serial differ.
-#[derive(Drop)]
+#[derive(Clone, Copy)]
 pub enum Tally {
     Shared(Shared),
     Differ,
 }
 
 // A joined bundle that fits: where the groups start, in it and in both bundles, and its size.
-#[derive(Drop)]
+#[derive(Clone, Copy)]
 pub struct Plan {
     pub start: usize,
     pub size: Size,
 }
 
 // The joined bundle, or the refusal.
-#[derive(Drop)]
+#[derive(Clone, Copy)]
 pub enum Planned {
     Fits(Plan),
     Refused(Refusal),

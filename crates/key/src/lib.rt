@@ -8,14 +8,14 @@ use field::Level;
 use refusal::{Answer, Refusal};
 
 // The sizes of a key; H, x and y are lent beside it.
-#[derive(Drop)]
+#[derive(Clone, Copy)]
 pub struct Key {
     pub n: usize,
     pub m: usize,
 }
 
 // What a position is: a column, below n; a spare code, from n to 2^d - 1; or too large.
-#[derive(Drop)]
+#[derive(Clone, Copy)]
 pub enum Code {
     Column,
     Spare,
@@ -24,7 +24,7 @@ pub enum Code {
 
 // The lengths of lent slices, in bytes or words: H, x, y, positions, bits, elements of K for the correlations, all polynomials,
 // all values and as many weights, the masks, the proof, and one element of K.
-#[derive(Drop)]
+#[derive(Clone, Copy)]
 pub struct Lengths {
     pub matrix: usize,
     pub vector: usize,

@@ -19,7 +19,7 @@ use key::Key;
 use refusal::{Answer, Refusal};
 
 // What a field's content holds, and so how its values are checked.
-#[derive(Drop)]
+#[derive(Clone, Copy)]
 pub enum Kind {
     Sizes,
     Elements,
@@ -30,7 +30,7 @@ pub enum Kind {
 }
 
 // A field of the layout: its tag, the length of its content and what that is.
-#[derive(Drop)]
+#[derive(Clone, Copy)]
 pub struct Row {
     pub tag: u8,
     pub len: usize,
@@ -73,14 +73,14 @@ pub const HEAD: usize = 3;
 // Where the content of field 02 stands in a file: after field 01 and the head.
 const H_START: usize = 8;
 // Where a content stands in the bytes lent.
-#[derive(Drop)]
+#[derive(Clone, Copy)]
 pub struct Part {
     pub start: usize,
     pub len: usize,
 }
 
 // Where the next field starts, or the refusal.
-#[derive(Drop)]
+#[derive(Clone, Copy)]
 pub enum Step {
     Next(usize),
     Refused(Refusal),

@@ -1,3 +1,4 @@
 pub mod Words
 pub mod Lent
 pub mod Count
+pub mod Rows

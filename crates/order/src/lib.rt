@@ -12,7 +12,7 @@ use field::FIRST;
 use refusal::{Answer, Refusal};
 
 // What quick_look answers: all is well, or the index of the first position that is no column or came before.
-#[derive(Drop)]
+#[derive(Clone, Copy)]
 pub enum Looked {
     Well,
     Offender(usize),

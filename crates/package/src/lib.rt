@@ -14,7 +14,7 @@ use layout::{Part, Row, Step};
 use refusal::{Answer, Refusal};
 
 // What a package or a check file says of itself.
-#[derive(Drop)]
+#[derive(Clone, Copy)]
 pub struct Contents {
     pub n: usize,
     pub m: usize,
@@ -22,7 +22,7 @@ pub struct Contents {
 }
 
 // The answer of a reader.
-#[derive(Drop)]
+#[derive(Clone, Copy)]
 pub enum Read {
     Fields(Contents),
     Refused(Refusal),

@@ -10,7 +10,7 @@ use key::Key;
 use refusal::{Answer, Refusal};
 
 // What rank answers.
-#[derive(Drop)]
+#[derive(Clone, Copy)]
 pub enum Ranked {
     Rank(usize),
     Refused(Refusal),

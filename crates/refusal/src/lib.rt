@@ -4,7 +4,7 @@ ghost use Rattle.refusal.specs.Answer.{number_of};
 ghost use Rattle.refusal.specs.Verdict.{verdict_number};
 
 // A refusal, by its number.
-#[derive(Drop)]
+#[derive(Clone, Copy)]
 pub struct Refusal {
     pub number: u32,
 }
@@ -53,14 +53,14 @@ impl Refusal {
 }
 
 // What an entry that writes its results answers.
-#[derive(Drop)]
+#[derive(Clone, Copy)]
 pub enum Answer {
     Done,
     Refused(Refusal),
 }
 
 // What verify answers.
-#[derive(Drop)]
+#[derive(Clone, Copy)]
 pub enum Verdict {
     Accepted,
     Rejected,

@@ -20,7 +20,7 @@ use layout::Row;
 use refusal::{Answer, Refusal};
 
 // What write_package answers.
-#[derive(Drop)]
+#[derive(Clone, Copy)]
 pub enum Written {
     Length(usize),
     Refused(Refusal),

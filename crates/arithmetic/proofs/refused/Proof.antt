@@ -25,59 +25,59 @@ unfolding level_at
 other s e h = ap not (ne_eqb (length s) first.coordinates (λ n. h (n ∙ sym (ap (λ (l : Level). l.coordinates) e))))
 
 -- the rows that are left where each test has been passed
-past1 : (c : tie.Else1) → let p = c.before.before.before.before.before.args in first_of (rows p.a.now p.b.now p.out.now) ≡ first_of (rows1 p.a.now p.b.now p.out.now)
-past1 c = let p = c.before.before.before.before.before.args in pass 3 (rows1 p.a.now p.b.now p.out.now) (same p.a.now c.before.of.ensures c.if1.false)
+past1 : (c : tie.Else-a-coordinates) → let p = c.args in first_of (rows p.a.now p.b.now p.out.now) ≡ first_of (rows1 p.a.now p.b.now p.out.now)
+past1 c = let p = c.args in pass 3 (rows1 p.a.now p.b.now p.out.now) (same p.a.now c.of-level.ensures c.if-a-coordinates.false)
 
-past2 : (c : tie.Else2) → let p = c.before.before.before.before.before.before.args in first_of (rows p.a.now p.b.now p.out.now) ≡ first_of (rows2 p.a.now p.b.now p.out.now)
-past2 c = let p = c.before.before.before.before.before.before.args in past1 c.before ∙ pass 3 (rows2 p.a.now p.b.now p.out.now) (same p.b.now c.before.before.of.ensures c.if2.false)
+past2 : (c : tie.Else-b-coordinates) → let p = c.args in first_of (rows p.a.now p.b.now p.out.now) ≡ first_of (rows2 p.a.now p.b.now p.out.now)
+past2 c = let p = c.args in past1 c.before ∙ pass 3 (rows2 p.a.now p.b.now p.out.now) (same p.b.now c.of-level.ensures c.if-b-coordinates.false)
 
-past3 : (c : tie.Else3) → let p = c.before.before.before.before.before.before.before.args in first_of (rows p.a.now p.b.now p.out.now) ≡ first_of (rows3 p.a.now p.b.now p.out.now)
-past3 c = let p = c.before.before.before.before.before.before.before.args in past2 c.before ∙ pass 3 (rows3 p.a.now p.b.now p.out.now) (same p.out.now c.before.before.before.of.ensures c.if3.false)
+past3 : (c : tie.Else-out-coordinates) → let p = c.args in first_of (rows p.a.now p.b.now p.out.now) ≡ first_of (rows3 p.a.now p.b.now p.out.now)
+past3 c = let p = c.args in past2 c.before ∙ pass 3 (rows3 p.a.now p.b.now p.out.now) (same p.out.now c.of-level.ensures c.if-out-coordinates.false)
 
-past4 : (c : tie.Else4) → let p = c.before.before.before.before.before.before.before.before.before.args in first_of (rows p.a.now p.b.now p.out.now) ≡ first_of (rows4 p.a.now p.b.now p.out.now)
+past4 : (c : tie.Else-excess-ne0) → let p = c.args in first_of (rows p.a.now p.b.now p.out.now) ≡ first_of (rows4 p.a.now p.b.now p.out.now)
 unfolding level_at
-past4 c = let p = c.before.before.before.before.before.before.before.before.before.args in past3 c.before.before ∙ pass 6 (rows4 p.a.now p.b.now p.out.now) (fine c.before.excess.ensures c.if4.false)
+past4 c = let p = c.args in past3 c.before.before ∙ pass 6 (rows4 p.a.now p.b.now p.out.now) (fine c.excess.ensures c.if-excess-ne0.false)
 
-of-requires : tie.Need-of-requires
-of-requires c κs = search rules
+of-level-requires : tie.Need-of-level-requires
+of-level-requires c κs = search rules
 
-returns : tie.Need-returns
-returns c = let p = c.before.before.before.before.before.args in sym (stop 3 (rows1 p.a.now p.b.now p.out.now) (other p.a.now c.before.of.ensures c.if1.true))
+returns-then-a-coordinates : tie.Need-returns-then-a-coordinates
+returns-then-a-coordinates c = let p = c.args in sym (stop 3 (rows1 p.a.now p.b.now p.out.now) (other p.a.now c.of-level.ensures c.if-a-coordinates.true))
 
-returns-2 : tie.Need-returns-2
-returns-2 c = let p = c.before.before.before.before.before.before.args in sym (past1 c.before ∙ stop 3 (rows2 p.a.now p.b.now p.out.now) (other p.b.now c.before.before.of.ensures c.if2.true))
+returns-then-b-coordinates : tie.Need-returns-then-b-coordinates
+returns-then-b-coordinates c = let p = c.args in sym (past1 c.before ∙ stop 3 (rows2 p.a.now p.b.now p.out.now) (other p.b.now c.of-level.ensures c.if-b-coordinates.true))
 
-returns-3 : tie.Need-returns-3
-returns-3 c = let p = c.before.before.before.before.before.before.before.args in sym (past2 c.before ∙ stop 3 (rows3 p.a.now p.b.now p.out.now) (other p.out.now c.before.before.before.of.ensures c.if3.true))
+returns-then-out-coordinates : tie.Need-returns-then-out-coordinates
+returns-then-out-coordinates c = let p = c.args in sym (past2 c.before ∙ stop 3 (rows3 p.a.now p.b.now p.out.now) (other p.out.now c.of-level.ensures c.if-out-coordinates.true))
 
 excess-requires : tie.Need-excess-requires
 excess-requires c κs = search rules
 
-returns-4 : tie.Need-returns-4
+returns-then-excess-ne0 : tie.Need-returns-then-excess-ne0
 unfolding level_at
-returns-4 c = let p = c.before.before.before.before.before.before.before.before.before.args in sym (past3 c.before.before ∙ stop 6 (rows4 p.a.now p.b.now p.out.now) (above c.before.excess.ensures c.if4.true))
+returns-then-excess-ne0 c = let p = c.args in sym (past3 c.before.before ∙ stop 6 (rows4 p.a.now p.b.now p.out.now) (above c.excess.ensures c.if-excess-ne0.true))
 
 excess-requires-2 : tie.Need-excess-requires-2
 excess-requires-2 c κs = search rules
 
-returns-5 : tie.Need-returns-5
+returns-then-excess-ne0-2 : tie.Need-returns-then-excess-ne0-2
 unfolding level_at
-returns-5 c = let p = c.before.before.before.before.before.before.before.before.before.before.before.args in sym (past4 c.before.before ∙ stop 6 [] (above c.before.excess2.ensures c.if5.true))
+returns-then-excess-ne0-2 c = let p = c.args in sym (past4 c.before.before ∙ stop 6 [] (above c.excess-2.ensures c.if-excess-ne0-2.true))
 
-returns-6 : tie.Need-returns-6
+returns : tie.Need-returns
 unfolding level_at
-returns-6 c = let p = c.before.before.before.before.before.before.before.before.before.before.before.args in sym (past4 c.before.before ∙ pass 6 [] (fine c.before.excess2.ensures c.if5.false))
+returns c = let p = c.args in sym (past4 c.before.before ∙ pass 6 [] (fine c.excess-2.ensures c.if-excess-ne0-2.false))
 
-pub refused-spec : {M : Type 1} → statement M
-refused-spec =
+pub refused_spec : {M : Type 1} → statement M
+refused_spec =
     tie.close
     (tie.spec
-    of-requires
-    returns
-    returns-2
-    returns-3
+    of-level-requires
+    returns-then-a-coordinates
+    returns-then-b-coordinates
+    returns-then-out-coordinates
     excess-requires
-    returns-4
+    returns-then-excess-ne0
     excess-requires-2
-    returns-5
-    returns-6)
+    returns-then-excess-ne0-2
+    returns)

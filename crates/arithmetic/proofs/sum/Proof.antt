@@ -10,70 +10,69 @@ use Rattle.arithmetic.proofs.sum.Statement.{statement}
 use Rattle.arithmetic.proofs.sum.Tie as tie
 
 -- where the answer is Done
-accepted : (c : tie.After-enum-told) → let p = c.before.before.before.before.before.before.before.args in Lent p.a.now p.b.now p.out.now
+accepted : (c : tie.In-Done) → let p = c.args in Lent p.a.now p.b.now p.out.now
 accepted c =
-    let p = c.before.before.before.before.before.before.before.args in
-    lent p.a.now p.b.now p.out.now (sym c.before.before.refused.ensures ∙ c.enum_told.given.1)
+    let p = c.args in
+    lent p.a.now p.b.now p.out.now (sym c.refused-answer.ensures ∙ c.in-Done.is)
 
-refused-requires : tie.Need-refused-requires
-refused-requires c κs = search rules
+refused-answer-requires : tie.Need-refused-answer-requires
+refused-answer-requires c κs = search rules
 
-enum_told : tie.Need-enum-told
-enum_told c = search rules
+enum_told-1 : tie.Need-enum_told-1
+enum_told-1 c = search rules
 
-load-requires : tie.Need-load-requires
+load-x-requires : tie.Need-load-x-requires
 unfolding level_at
-load-requires c κs = omega (arith, (accepted c).a-length)
+load-x-requires c κs = omega (arith, (accepted c).a-length)
 
-load-requires-2 : tie.Need-load-requires-2
+load-y-requires : tie.Need-load-y-requires
 unfolding level_at
-load-requires-2 c κs = omega (arith, (accepted c.before).b-length)
+load-y-requires c κs = omega (arith, (accepted c.before).b-length)
 
-plus-requires : tie.Need-plus-requires
-plus-requires c κs = search rules
+plus-total-requires : tie.Need-plus-total-requires
+plus-total-requires c κs = search rules
 
 store-requires : tie.Need-store-requires
 unfolding level_at
 store-requires c κs = omega (arith, (accepted c.before.before.before.before).out_length)
 
-enum-told-2 : tie.Need-enum-told-2
-enum-told-2 c = search rules
+enum_told-in-Refused : tie.Need-enum_told-in-Refused
+enum_told-in-Refused c = search rules
 
-same_length : tie.Need-same-length
-same_length c = search rules
+shape_of-out-in-Done : tie.Need-shape_of-out-in-Done
+shape_of-out-in-Done c = search rules
 
-returns : tie.Need-returns
+returns-in-Done : tie.Need-returns-in-Done
 unfolding sum_outcome level_at
-returns c =
-    let p = c.before.before.before.before.before.before.before.before.before.before.before.before.before.before.args in
-    let e = c.before.before.before.before.before.before.before in
+returns-in-Done c =
+    let p = c.args in
     let x = element first p.a.now in
     let y = element first p.b.now in
-    let held = c.before.before.before.before.plus.ensures x y (c.before.before.before.before.before.before.load.ensures x (accepted e).a-words) (c.before.before.before.before.before.load2.ensures y (accepted e).b-words) in
-    when_done (rows p.a.now p.b.now p.out.now) (words first ((K first).add x y)) p.out.now c.before.before.before.before.before.before.before.before.before.refused.ensures e.enum_told.given.1
-    (stored p.out.now ((K first).add x y) (accepted e).out_length (c.before.before.store.ensures ((K first).add x y) held))
+    let held = c.plus-total.ensures x y (c.load-x.ensures x (accepted c.before.before.before.before.before.before.before).a-words) (c.load-y.ensures y (accepted c.before.before.before.before.before.before.before).b-words) in
+    when_done (rows p.a.now p.b.now p.out.now) (words first ((K first).add x y)) p.out.now c.refused-answer.ensures c.in-Done.is
+    (stored p.out.now ((K first).add x y) (accepted c.before.before.before.before.before.before.before).out_length (c.store.ensures ((K first).add x y) held))
 
-same-length-2 : tie.Need-same-length-2
-same-length-2 c = search rules
+shape_of-out-in-Refused : tie.Need-shape_of-out-in-Refused
+shape_of-out-in-Refused c = search rules
 
-returns-2 : tie.Need-returns-2
+returns-in-Refused : tie.Need-returns-in-Refused
 unfolding sum_outcome
-returns-2 c =
-    let p = c.before.before.before.before.before.before.before.args in
-    when_refused (rows p.a.now p.b.now p.out.now) (words first ((K first).add (element first p.a.now) (element first p.b.now))) p.out.now c.before.before.refused.ensures c.enum-told2.given.1
+returns-in-Refused c =
+    let p = c.args in
+    when_refused (rows p.a.now p.b.now p.out.now) (words first ((K first).add (element first p.a.now) (element first p.b.now))) p.out.now c.refused-answer.ensures c.in-Refused.is
 
-pub sum-spec : {M : Type 1} → statement M
-sum-spec =
+pub sum_spec : {M : Type 1} → statement M
+sum_spec =
     tie.close
     (tie.spec
-    refused-requires
-    enum_told
-    load-requires
-    load-requires-2
-    plus-requires
+    refused-answer-requires
+    enum_told-1
+    load-x-requires
+    load-y-requires
+    plus-total-requires
     store-requires
-    enum-told-2
-    same_length
-    returns
-    same-length-2
-    returns-2)
+    enum_told-in-Refused
+    shape_of-out-in-Done
+    returns-in-Done
+    shape_of-out-in-Refused
+    returns-in-Refused)

@@ -12,53 +12,62 @@ use Rattle.checkzero.proofs.Laws.{pow-none, mask-sum-none}
 use Rattle.checkzero.proofs.mask_sum.Statement.{statement}
 use Rattle.checkzero.proofs.mask_sum.Tie as tie
 
-abbrev invariant-loop : tie.invariant-loop
-invariant-loop masks delta count level held₀ k₀ held k =
+abbrev invariant-loop-k : tie.invariant-loop-k
+invariant-loop-k masks delta count level held₀ k₀ held k =
     (k ≤ count) × AtMask (level_at level) (value_of (level_at level) delta.words) (el (level_at level) masks) k held.power.words held.total.words
 
-abbrev decreases-loop : tie.decreases-loop
-decreases-loop masks delta count level held₀ k₀ held k = count - k
+abbrev decreases-loop-k : tie.decreases-loop-k
+decreases-loop-k masks delta count level held₀ k₀ held k = count - k
 
-one-requires : tie.Need-one-requires invariant-loop decreases-loop
-one-requires c κs = search rules
+one-power-requires : tie.Need-one-power-requires invariant-loop-k decreases-loop-k
+one-power-requires c κs = search rules
 
-zero-requires : tie.Need-zero-requires invariant-loop decreases-loop
-zero-requires c κs = search rules
+zero-total-requires : tie.Need-zero-total-requires invariant-loop-k decreases-loop-k
+zero-total-requires c κs = search rules
 
-loop-holds : tie.Need-loop-init invariant-loop decreases-loop
-loop-holds c =
-    let s = c.before.before.before in
-    let l = level_at s.args.level in
-    let Δ = value_of l s.args.delta.words in (
+loop-k-init : tie.Need-loop-k-init invariant-loop-k decreases-loop-k
+loop-k-init c =
+    let l = level_at c.args.level in
+    let Δ = value_of l c.args.delta.words in (
       omega arith,
       record {
-        power = subst (Holds l c.before.one.result.words) (pow-none (K l) Δ) c.before.one.ensures;
-        total = subst (Holds l c.zero.result.words) (mask-sum-none (K l) Δ (el l s.args.masks.now)) c.zero.ensures;
+        power = subst (Holds l c.one-power.result.words) (pow-none (K l) Δ) c.one-power.ensures;
+        total = subst (Holds l c.zero-total.result.words) (mask-sum-none (K l) Δ (el l c.args.masks.now)) c.zero-total.ensures;
       },
     )
 
-turn-requires : tie.Need-turn-requires invariant-loop decreases-loop
-turn-requires c κs =
-    let s = c.before.before.before.before.before in
-    let l = c.before.loop in
-    (s.requires.0, s.requires.1, fits_le (level_at s.args.level) (l.k + 1) s.args.count (omega (arith, c.loop-test.true)) refl s.requires.2, l.invariant.1)
+turn-held-requires : tie.Need-turn-held-requires invariant-loop-k decreases-loop-k
+turn-held-requires c κs =
+    let l = c.loop-k in
+    (c.requires.0, c.requires.1, fits_le (level_at c.args.level) (l.k + 1) c.args.count (omega (arith, c.loop-k-test.true)) refl c.requires.2, l.invariant.1)
 
-add-k : tie.Need-overflow-add-k invariant-loop decreases-loop
-add-k c = search rules
+overflow_add-k : tie.Need-overflow_add-k invariant-loop-k decreases-loop-k
+overflow_add-k c = search rules
 
-loop-less : tie.Need-loop-smaller invariant-loop decreases-loop
-loop-less c = omega (arith, c.before.loop-test.true)
+loop-k-smaller : tie.Need-loop-k-smaller invariant-loop-k decreases-loop-k
+loop-k-smaller c = omega (arith, c.loop-k-test.true)
 
-loop-again : tie.Need-loop-preserved invariant-loop decreases-loop
-loop-again c = (omega (arith, c.before.loop-test.true), c.turn.ensures)
+loop-k-preserved : tie.Need-loop-k-preserved invariant-loop-k decreases-loop-k
+loop-k-preserved c = (omega (arith, c.loop-k-test.true), c.turn-held.ensures)
 
-returns : tie.Need-returns invariant-loop decreases-loop
+returns : tie.Need-returns invariant-loop-k decreases-loop-k
 returns c =
-    let l = c.before.before.loop in
-    let s = c.before.before.before.before.before.before in
-    let done : l.k ≡ s.args.count = omega (arith, l.invariant.0) in
-    let level = level_at s.args.level in
-    subst (λ k. Holds level l.held.total.words (mask_sum (K level) k (value_of level s.args.delta.words) (el level s.args.masks.now))) done l.invariant.1.total
+    let l = c.loop-k in
+    let done : l.k ≡ c.args.count = omega (arith, l.invariant.0) in
+    let level = level_at c.args.level in
+    subst (λ k. Holds level l.held.total.words (mask_sum (K level) k (value_of level c.args.delta.words) (el level c.args.masks.now))) done l.invariant.1.total
 
-pub mask-sum-spec : {M : Type 1} → statement M
-mask-sum-spec = tie.close (tie.spec invariant-loop decreases-loop one-requires zero-requires loop-holds turn-requires add-k loop-less loop-again returns)
+pub mask_sum_spec : {M : Type 1} → statement M
+mask_sum_spec =
+    tie.close
+    (tie.spec
+    invariant-loop-k
+    decreases-loop-k
+    one-power-requires
+    zero-total-requires
+    loop-k-init
+    turn-held-requires
+    overflow_add-k
+    loop-k-smaller
+    loop-k-preserved
+    returns)

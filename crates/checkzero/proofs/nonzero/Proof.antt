@@ -15,49 +15,55 @@ use Rattle.checkzero.proofs.Laws.{every-none, every_more}
 use Rattle.checkzero.proofs.nonzero.Statement.{statement}
 use Rattle.checkzero.proofs.nonzero.Tie as tie
 
-abbrev invariant-loop : tie.invariant-loop
-invariant-loop p size level any₀ j₀ any j = (j ≤ size) × (eqb any 0 ≡ every j (λ i. is_zero (level_at level) (el (level_at level) p i)))
+abbrev invariant-loop-j : tie.invariant-loop-j
+invariant-loop-j p size level any₀ j₀ any j = (j ≤ size) × (eqb any 0 ≡ every j (λ i. is_zero (level_at level) (el (level_at level) p i)))
 
-abbrev decreases-loop : tie.decreases-loop
-decreases-loop p size level any₀ j₀ any j = size - j
+abbrev decreases-loop-j : tie.decreases-loop-j
+decreases-loop-j p size level any₀ j₀ any j = size - j
 
-abbrev L : tie.Start invariant-loop decreases-loop → Level
+abbrev L : tie.Start invariant-loop-j decreases-loop-j → Level
 L s = level_at s.args.level
 
-abbrev tests : tie.Start invariant-loop decreases-loop → ℕ → Bool
+abbrev tests : tie.Start invariant-loop-j decreases-loop-j → ℕ → Bool
 tests s i = is_zero (L s) (el (L s) s.args.p.now i)
 
-loop-holds : tie.Need-loop-init invariant-loop decreases-loop
-loop-holds c = (omega arith, sym (every-none (tests c.before)))
+loop-j-init : tie.Need-loop-j-init invariant-loop-j decreases-loop-j
+loop-j-init c = (omega arith, sym (every-none (tests c.before)))
 
-get-requires : tie.Need-get-requires invariant-loop decreases-loop
-get-requires c κs =
-    let s = c.before.before.before in
-    (s.requires.0, fits_le (L s) (c.before.loop.j + 1) s.args.size (omega (arith, c.loop-test.true)) refl s.requires.1)
+get-element-requires : tie.Need-get-element-requires invariant-loop-j decreases-loop-j
+get-element-requires c κs =
+    (c.requires.0, fits_le (L c.before.before.before) (c.loop-j.j + 1) c.args.size (omega (arith, c.loop-j-test.true)) refl c.requires.1)
 
-nonzero-requires : tie.Need-nonzero-requires invariant-loop decreases-loop
-nonzero-requires c κs = search rules
+nonzero-any-requires : tie.Need-nonzero-any-requires invariant-loop-j decreases-loop-j
+nonzero-any-requires c κs = search rules
 
-add-j : tie.Need-overflow-add-j invariant-loop decreases-loop
-add-j c = omega (arith, c.before.before.loop-test.true, c.before.before.before.before.before.ranges.size)
+overflow_add-j : tie.Need-overflow_add-j invariant-loop-j decreases-loop-j
+overflow_add-j c = omega (arith, c.loop-j-test.true, c.ranges.size)
 
-loop-less : tie.Need-loop-smaller invariant-loop decreases-loop
-loop-less c = omega (arith, c.before.before.loop-test.true)
+loop-j-smaller : tie.Need-loop-j-smaller invariant-loop-j decreases-loop-j
+loop-j-smaller c = omega (arith, c.loop-j-test.true)
 
-loop-again : tie.Need-loop-preserved invariant-loop decreases-loop
-loop-again c =
-    let s = c.before.before.before.before.before in
-    let l = c.before.before.before.loop in
-    (omega (arith, c.before.before.loop-test.true), or-none l.any c.nonzero.result ∙ ap₂ ◌&&◌ l.invariant.1 (c.nonzero.ensures (el (L s) s.args.p.now l.j) c.before.get.ensures) ∙ every_more l.j (tests s))
+loop-j-preserved : tie.Need-loop-j-preserved invariant-loop-j decreases-loop-j
+loop-j-preserved c =
+    let l = c.loop-j in
+    (omega (arith, c.loop-j-test.true), or-none l.any c.nonzero-any.result ∙ ap₂ ◌&&◌ l.invariant.1 (c.nonzero-any.ensures (el (L c.before.before.before.before.before) c.args.p.now l.j) c.get-element.ensures) ∙ every_more l.j (tests c.before.before.before.before.before))
 
-returns : tie.Need-returns invariant-loop decreases-loop
+returns : tie.Need-returns invariant-loop-j decreases-loop-j
 returns c =
-    let l = c.before.loop in
-    let s = c.before.before.before in
-    let done : l.j ≡ s.args.size = omega arith in
-    l.invariant.1 ∙ ap (λ n. every n (tests s)) done
+    let l = c.loop-j in
+    let done : l.j ≡ c.args.size = omega arith in
+    l.invariant.1 ∙ ap (λ n. every n (tests c.before.before.before)) done
 
-pub nonzero-spec : {M : Type 1} → statement M
-nonzero-spec =
+pub nonzero_spec : {M : Type 1} → statement M
+nonzero_spec =
     tie.close
-    (tie.spec invariant-loop decreases-loop loop-holds get-requires nonzero-requires add-j loop-less loop-again returns)
+    (tie.spec
+    invariant-loop-j
+    decreases-loop-j
+    loop-j-init
+    get-element-requires
+    nonzero-any-requires
+    overflow_add-j
+    loop-j-smaller
+    loop-j-preserved
+    returns)

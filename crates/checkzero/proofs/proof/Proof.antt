@@ -30,47 +30,44 @@ all s = fits_all (L s) s.args.d s.requires.1.0.0 s.requires.1.0.6
 
 weighted-requires : tie.Need-weighted-requires
 weighted-requires c κs =
-    let s = c.before.before.before.before.before.before.before.before.before.before.before.before.before in
-    let w = s.requires.0 in
-    let p = s.requires.1.0 in
-    let f = s.requires.1.1 in
-    ((w.0, w.1, w.2, p.0, p.2, p.3), (p.4, p.5, f.0, all s, f.3, f.4))
+    let w = c.requires.0 in
+    let p = c.requires.1.0 in
+    let f = c.requires.1.1 in
+    ((w.0, w.1, w.2, p.0, p.2, p.3), (p.4, p.5, f.0, all c.before.before.before.before.before.before.before.before.before.before.before.before.before, f.3, f.4))
 
-sub-add-masks : tie.Need-overflow-sub-add-masks
-sub-add-masks c = c.before.before.before.before.before.before.before.before.before.before.before.before.before.before.before.before.before.before.before.before.before.requires.1.0.1
+overflow_sub-d : tie.Need-overflow_sub-d
+overflow_sub-d c = c.requires.1.0.1
 
-add-masks-requires : tie.Need-add-masks-requires
-add-masks-requires c κs =
-    let s = c.before.before.before.before.before.before.before.before.before.before.before.before.before.before.before.before.before.before.before.before.before in
-    let w = c.before.before.before.before.before.before.before.weighted.ensures in
-    (w.words, s.requires.0.3, s.requires.0.4, fits_le (L s) (s.args.d - 1 + 1) s.args.d (omega (arith, s.requires.1.0.1)) w.same (all s), s.requires.1.1.1, s.requires.1.1.2)
+add_masks-requires : tie.Need-add_masks-requires
+add_masks-requires c κs =
+    let w = c.weighted.ensures in
+    (w.words, c.requires.0.3, c.requires.0.4, fits_le (L c.before.before.before.before.before.before.before.before.before.before.before.before.before.before.before.before.before.before.before.before.before) (c.args.d - 1 + 1) c.args.d (omega (arith, c.requires.1.0.1)) w.same (all c.before.before.before.before.before.before.before.before.before.before.before.before.before.before.before.before.before.before.before.before.before), c.requires.1.1.1, c.requires.1.1.2)
 
-same_length : tie.Need-same-length
-same_length c = c.before.before.add-masks.ensures.same ∙ c.before.before.before.before.before.before.before.before.before.before.weighted.ensures.same
+shape_of-a : tie.Need-shape_of-a
+shape_of-a c = c.add_masks.ensures.same ∙ c.weighted.ensures.same
 
-same-length-2 : tie.Need-same-length-2
-same-length-2 c = search rules
+shape_of-beta : tie.Need-shape_of-beta
+shape_of-beta c = search rules
 
-same-length-3 : tie.Need-same-length-3
-same-length-3 c = search rules
+shape_of-work : tie.Need-shape_of-work
+shape_of-work c = search rules
 
 returns : tie.Need-returns
 returns c y =
-    let s = c.before.before.before.before.before.before.before.before.before.before.before.before.before.before.before.before.before.before.before.before.before.before.before.before in
-    let w = c.before.before.before.before.before.before.before.before.before.before.weighted in
-    let m = c.before.before.add-masks in
-    let k = K (L s) in
-    written (L s) s.args.d m.new.0 (λ i. k.add (sums s y i) (masks s i)) m.ensures.words s.requires.1.0.0 (m.ensures.same ∙ w.ensures.same ∙ s.requires.1.0.6)
-    (λ i l. m.ensures.holds.low i (omega (arith, s.requires.1.0.1)) ∙ ap (λ b. k.add b (masks s i)) (w.ensures.holds (small_of (L s) y) i l))
+    let w = c.weighted in
+    let m = c.add_masks in
+    let k = K (L c.before.before.before.before.before.before.before.before.before.before.before.before.before.before.before.before.before.before.before.before.before.before.before.before) in
+    written (L c.before.before.before.before.before.before.before.before.before.before.before.before.before.before.before.before.before.before.before.before.before.before.before.before) c.args.d m.new.dst (λ i. k.add (sums c.before.before.before.before.before.before.before.before.before.before.before.before.before.before.before.before.before.before.before.before.before.before.before.before y i) (masks c.before.before.before.before.before.before.before.before.before.before.before.before.before.before.before.before.before.before.before.before.before.before.before.before i)) m.ensures.words c.requires.1.0.0 (m.ensures.same ∙ w.ensures.same ∙ c.requires.1.0.6)
+    (λ i l. m.ensures.holds.low i (omega (arith, c.requires.1.0.1)) ∙ ap (λ b. k.add b (masks c.before.before.before.before.before.before.before.before.before.before.before.before.before.before.before.before.before.before.before.before.before.before.before.before i)) (w.ensures.holds (small_of (L c.before.before.before.before.before.before.before.before.before.before.before.before.before.before.before.before.before.before.before.before.before.before.before.before) y) i l))
 
-pub proof-spec : {M : Type 1} → statement M
-proof-spec =
+pub proof_spec : {M : Type 1} → statement M
+proof_spec =
     tie.close
     (tie.spec
     weighted-requires
-    sub-add-masks
-    add-masks-requires
-    same_length
-    same-length-2
-    same-length-3
+    overflow_sub-d
+    add_masks-requires
+    shape_of-a
+    shape_of-beta
+    shape_of-work
     returns)

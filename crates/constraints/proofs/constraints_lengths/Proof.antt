@@ -7,14 +7,18 @@ use Rattle.key.specs.Key.{key_slices}
 use Rattle.constraints.proofs.constraints_lengths.Statement.{statement}
 use Rattle.constraints.proofs.constraints_lengths.Tie as tie
 
-lengths-requires : tie.Need-lengths-requires
-lengths-requires c κs = c.before.before.before.before.before.before.before.before.requires
+lengths-len-requires : tie.Need-lengths-len-requires
+lengths-len-requires c κs = c.requires
 
 returns : tie.Need-returns
 returns c =
-    let a = c.before.before.before.before.before.before.before.before.before.before.before.before.before.before.before.before.before.args in
-    let n = c.before.before.before.before.before.before.before.before.lengths in
+    let a = c.args in
+    let n = c.lengths-len in
     differences-long (constraints_lent n.result (key_slices a.h.now a.x.now a.y.now) a.positions.now a.u.now a.v.now a.t.now a.p.now) ∙ ap (λ (n : Lengths). long (constraints_lent n (key_slices a.h.now a.x.now a.y.now) a.positions.now a.u.now a.v.now a.t.now a.p.now)) n.ensures
 
-pub constraints-lengths-spec : {M : Type 1} → statement M
-constraints-lengths-spec = tie.close (tie.spec lengths-requires returns)
+pub constraints_lengths_spec : {M : Type 1} → statement M
+constraints_lengths_spec =
+    tie.close
+    (tie.spec
+    lengths-len-requires
+    returns)

@@ -21,59 +21,58 @@ use Rattle.constraints.proofs.constraints_refused.Statement.{statement}
 use Rattle.constraints.proofs.constraints_refused.Tie as tie
 
 -- past the sizes
-passed : (c : tie.After-enum-told2) → first_of (sizes (level_at FIRST) c.before.before.before.before.before.before.before.before.before.before.before.args.key) ≡ Done
-passed c = sym c.before.before.sizes.ensures ∙ c.enum-told2.given.1
+passed : (c : tie.In_default) → first_of (sizes (level_at FIRST) c.args.key) ≡ Done
+passed c = sym c.sizes-sizes.ensures ∙ c.in_default.is
 
-is-sized : (c : tie.After-enum-told2) → Sized (level_at FIRST) c.before.before.before.before.before.before.before.before.before.before.before.args.key
-is-sized c = let k = c.before.before.before.before.before.before.before.before.before.before.before.args.key in sized (level_at FIRST) k (none (sizes (level_at FIRST) k) (passed c))
+is-sized : (c : tie.In_default) → Sized (level_at FIRST) c.args.key
+is-sized c = let k = c.args.key in sized (level_at FIRST) k (none (sizes (level_at FIRST) k) (passed c))
 
-sizes-requires : tie.Need-sizes-requires
-sizes-requires c κs = search rules
+sizes-sizes-requires : tie.Need-sizes-sizes-requires
+sizes-sizes-requires c κs = search rules
 
-enum_told : tie.Need-enum-told
-enum_told c = search rules
+enum_told-1 : tie.Need-enum_told-1
+enum_told-1 c = search rules
 
-returns : tie.Need-returns
-returns c =
-    let a = c.before.before.before.before.before.before.before.before.before.before.before.args in
+returns-in-Refused : tie.Need-returns-in-Refused
+returns-in-Refused c =
+    let a = c.args in
     after-refused (sizes (level_at FIRST) a.key)
     (checks (level_at FIRST) a.key (long (constraints_lent (lengths (level_at FIRST) a.key) (key_slices a.h.now a.x.now a.y.now) a.positions.now a.u.now a.v.now a.t.now a.p.now)) (key_slices a.h.now a.x.now a.y.now) (below 1 a.u.now) (withins (level_at FIRST) (a.v.now ∷ [])) (codes_of a.key.n a.positions.now))
-    c.before.before.sizes.ensures c.enum_told.given.1
+    c.sizes-sizes.ensures c.in-Refused.is
 
-enum-told-2 : tie.Need-enum-told-2
-enum-told-2 c = search rules
+enum_told-in_default : tie.Need-enum_told-in_default
+enum_told-in_default c = search rules
 
-constraints-lengths-requires : tie.Need-constraints-lengths-requires
-constraints-lengths-requires c κs = is-sized c
+constraints_lengths-lengths-requires : tie.Need-constraints_lengths-lengths-requires
+constraints_lengths-lengths-requires c κs = is-sized c
 
-returns-2 : tie.Need-returns-2
-returns-2 c =
-    let a = c.before.before.before.before.before.before.before.before.before.before.before.before.before.args in
+returns-then-lengths-ne0 : tie.Need-returns-then-lengths-ne0
+returns-then-lengths-ne0 c =
+    let a = c.args in
     told-length (level_at FIRST) a.key (long (constraints_lent (lengths (level_at FIRST) a.key) (key_slices a.h.now a.x.now a.y.now) a.positions.now a.u.now a.v.now a.t.now a.p.now)) (key_slices a.h.now a.x.now a.y.now) (below 1 a.u.now) (withins (level_at FIRST) (a.v.now ∷ [])) (codes_of a.key.n a.positions.now) []
-    (passed c.before.before) c.before.constraints-lengths.result c.before.constraints-lengths.ensures c.if1.true
+    (passed c.before.before) c.constraints_lengths-lengths.result c.constraints_lengths-lengths.ensures c.if-lengths-ne0.true
 
 -- past the lengths
-contents-requires : tie.Need-contents-requires
-contents-requires c κs =
+contents-contents-requires : tie.Need-contents-contents-requires
+contents-contents-requires c κs =
     let s = is-sized c.before.before in
-    let a = c.before.before.before.before.before.before.before.before.before.before.before.before.before.args in
-    (s, (each_long (constraints_lent (lengths (level_at FIRST) a.key) (key_slices a.h.now a.x.now a.y.now) a.positions.now a.u.now a.v.now a.t.now a.p.now) (sym c.before.constraints-lengths.ensures ∙ eq-eqb c.before.constraints-lengths.result 0 c.if1.false)).0, first-matrix a.key s)
+    let a = c.args in
+    (s, (each_long (constraints_lent (lengths (level_at FIRST) a.key) (key_slices a.h.now a.x.now a.y.now) a.positions.now a.u.now a.v.now a.t.now a.p.now) (sym c.constraints_lengths-lengths.ensures ∙ eq-eqb c.constraints_lengths-lengths.result 0 c.if-lengths-ne0.false)).0, first-matrix a.key s)
 
-enum-told-3 : tie.Need-enum-told-3
-enum-told-3 c = search rules
+enum_told-in-Refused-contents : tie.Need-enum_told-in-Refused-contents
+enum_told-in-Refused-contents c = search rules
 
-returns-3 : tie.Need-returns-3
-returns-3 c =
-    let a = c.before.before.before.before.before.before.before.before.before.before.before.before.before.before.before.before.args in
-    let e = c.before.before.before in
+returns-in-Refused-contents : tie.Need-returns-in-Refused-contents
+returns-in-Refused-contents c =
+    let a = c.args in
     told-key (level_at FIRST) a.key (long (constraints_lent (lengths (level_at FIRST) a.key) (key_slices a.h.now a.x.now a.y.now) a.positions.now a.u.now a.v.now a.t.now a.p.now)) (key_slices a.h.now a.x.now a.y.now) (below 1 a.u.now) (withins (level_at FIRST) (a.v.now ∷ [])) (codes_of a.key.n a.positions.now) []
-    (passed e.before.before) e.before.constraints-lengths.result e.before.constraints-lengths.ensures e.if1.false c.before.before.contents.ensures c.enum-told3.given.1
+    (passed c.before.before.before.before) c.constraints_lengths-lengths.result c.constraints_lengths-lengths.ensures c.if-lengths-ne0.false c.contents-contents.ensures c.in-Refused-contents.is
 
-enum-told-4 : tie.Need-enum-told-4
-enum-told-4 c = search rules
+enum_told-in_default-contents : tie.Need-enum_told-in_default-contents
+enum_told-in_default-contents c = search rules
 
-codes-requires : tie.Need-codes-requires
-codes-requires c κs = let s = is-sized c.before.before.before.before.before in (omega (arith, s.two), omega (arith, s.most, (bounded FIRST).most))
+codes-code-requires : tie.Need-codes-code-requires
+codes-code-requires c κs = let s = is-sized c.before.before.before.before in (omega (arith, s.two), omega (arith, s.most, (bounded FIRST).most))
 
 over-requires : tie.Need-over-requires
 over-requires c κs = search rules
@@ -84,33 +83,31 @@ excess-requires c κs = search rules
 material-requires : tie.Need-material-requires
 material-requires c κs = search rules
 
-returns-4 : tie.Need-returns-4
-returns-4 c =
-    let a = c.before.before.before.before.before.before.before.before.before.before.before.before.before.before.before.before.before.before.before.before.args in
-    let e = c.before.before.before.before.before.before.before in
-    let f = c.before.before.before.before in
+returns : tie.Need-returns
+returns c =
+    let a = c.args in
     told (level_at FIRST) a.key (long (constraints_lent (lengths (level_at FIRST) a.key) (key_slices a.h.now a.x.now a.y.now) a.positions.now a.u.now a.v.now a.t.now a.p.now)) (key_slices a.h.now a.x.now a.y.now) (below 1 a.u.now) (withins (level_at FIRST) (a.v.now ∷ [])) (codes_of a.key.n a.positions.now)
-    (passed e.before.before) e.before.constraints-lengths.result e.before.constraints-lengths.ensures e.if1.false (sym f.before.before.contents.ensures ∙ f.enum-told4.given.1) c.material.ensures
-    c.before.before.over.ensures
-    (withins-last (level_at FIRST) a.v.now c.before.excess.result c.before.excess.ensures)
-    (ap (λ k. code_at (bit_and k 2)) c.before.before.before.codes.ensures ∙ at-taken (codes_of a.key.n a.positions.now))
+    (passed c.before.before.before.before.before.before.before.before) c.constraints_lengths-lengths.result c.constraints_lengths-lengths.ensures c.if-lengths-ne0.false (sym c.contents-contents.ensures ∙ c.in_default-contents.is) c.material.ensures
+    c.over.ensures
+    (withins-last (level_at FIRST) a.v.now c.excess.result c.excess.ensures)
+    (ap (λ k. code_at (bit_and k 2)) c.codes-code.ensures ∙ at-taken (codes_of a.key.n a.positions.now))
 
-pub constraints-refused-spec : {M : Type 1} → statement M
-constraints-refused-spec =
+pub constraints_refused_spec : {M : Type 1} → statement M
+constraints_refused_spec =
     tie.close
     (tie.spec
-    sizes-requires
-    enum_told
-    returns
-    enum-told-2
-    constraints-lengths-requires
-    returns-2
-    contents-requires
-    enum-told-3
-    returns-3
-    enum-told-4
-    codes-requires
+    sizes-sizes-requires
+    enum_told-1
+    returns-in-Refused
+    enum_told-in_default
+    constraints_lengths-lengths-requires
+    returns-then-lengths-ne0
+    contents-contents-requires
+    enum_told-in-Refused-contents
+    returns-in-Refused-contents
+    enum_told-in_default-contents
+    codes-code-requires
     over-requires
     excess-requires
     material-requires
-    returns-4)
+    returns)

@@ -13,52 +13,52 @@ use borrow.Author.Rules.{rules}
 use Rattle.constraints.proofs.values.Statement.{statement}
 use Rattle.constraints.proofs.values.Tie as tie
 
-values-refused-requires : tie.Need-values-refused-requires
-values-refused-requires c κs = search rules
+values_refused-answer-requires : tie.Need-values_refused-answer-requires
+values_refused-answer-requires c κs = search rules
 
-enum_told : tie.Need-enum-told
-enum_told c = search rules
+enum_told-1 : tie.Need-enum_told-1
+enum_told-1 c = search rules
 
-write-values-requires : tie.Need-write-values-requires
-write-values-requires c κs =
-    let a = c.before.before.before.before.before.before.before.before.before.before.before.before.args in
-    let f = values-fine FIRST a.key (key_slices a.h.now a.x.now a.y.now) a.t.now a.q.now a.delta.now a.values.now (sym c.before.before.before.values-refused.ensures ∙ c.before.enum_told.given.1) in
+write_values-requires : tie.Need-write_values-requires
+write_values-requires c κs =
+    let a = c.args in
+    let f = values-fine FIRST a.key (key_slices a.h.now a.x.now a.y.now) a.t.now a.q.now a.delta.now a.values.now (sym c.values_refused-answer.ensures ∙ c.in-Done.is) in
     ((f.is-sized, f.is_key, f.t-bits, f.q-words, f.Δ-words, f.is-target), (f.t-length, f.q-length, f.Δ-length, f.p-length))
 
-enum-told-2 : tie.Need-enum-told-2
-enum-told-2 c = search rules
+enum_told-in-Refused : tie.Need-enum_told-in-Refused
+enum_told-in-Refused c = search rules
 
-same_length : tie.Need-same-length
-same_length c = search rules
+shape_of-values-in-Done : tie.Need-shape_of-values-in-Done
+shape_of-values-in-Done c = search rules
 
-returns : tie.Need-returns
+returns-in-Done : tie.Need-returns-in-Done
 unfolding values_outcome
-returns c =
-    let a = c.before.before.before.before.before.before.before.before.before.before.before.before.before.before.before.args in (
-      when_done (values_rows (level_at FIRST) a.key (key_slices a.h.now a.x.now a.y.now) a.t.now a.q.now a.delta.now a.values.now) (value_words (level_at FIRST) (system (level_at FIRST) a.key (key_slices a.h.now a.x.now a.y.now)) a.t.now a.q.now a.delta.now) a.values.now c.before.before.before.before.before.before.values-refused.ensures c.before.before.before.before.enum_told.given.1 c.before.before.write-values.ensures,
-      leans FIRST a.key (long (values_lent (lengths (level_at FIRST) a.key) (key_slices a.h.now a.x.now a.y.now) a.t.now a.q.now a.delta.now a.values.now)) (key_slices a.h.now a.x.now a.y.now) (below 1 a.t.now) (withins (level_at FIRST) (a.q.now ∷ a.delta.now ∷ [])) Column [] tt c.before.before.before.before.before.before.values-refused.ensures,
+returns-in-Done c =
+    let a = c.args in (
+      when_done (values_rows (level_at FIRST) a.key (key_slices a.h.now a.x.now a.y.now) a.t.now a.q.now a.delta.now a.values.now) (value_words (level_at FIRST) (system (level_at FIRST) a.key (key_slices a.h.now a.x.now a.y.now)) a.t.now a.q.now a.delta.now) a.values.now c.values_refused-answer.ensures c.in-Done.is c.write_values.ensures,
+      leans FIRST a.key (long (values_lent (lengths (level_at FIRST) a.key) (key_slices a.h.now a.x.now a.y.now) a.t.now a.q.now a.delta.now a.values.now)) (key_slices a.h.now a.x.now a.y.now) (below 1 a.t.now) (withins (level_at FIRST) (a.q.now ∷ a.delta.now ∷ [])) Column [] tt c.values_refused-answer.ensures,
     )
 
-same-length-2 : tie.Need-same-length-2
-same-length-2 c = search rules
+shape_of-values-in-Refused : tie.Need-shape_of-values-in-Refused
+shape_of-values-in-Refused c = search rules
 
-returns-2 : tie.Need-returns-2
+returns-in-Refused : tie.Need-returns-in-Refused
 unfolding values_outcome
-returns-2 c =
-    let a = c.before.before.before.before.before.before.before.before.before.before.before.args in (
-      when_refused (values_rows (level_at FIRST) a.key (key_slices a.h.now a.x.now a.y.now) a.t.now a.q.now a.delta.now a.values.now) (value_words (level_at FIRST) (system (level_at FIRST) a.key (key_slices a.h.now a.x.now a.y.now)) a.t.now a.q.now a.delta.now) a.values.now c.before.before.values-refused.ensures c.enum-told2.given.1,
-      leans FIRST a.key (long (values_lent (lengths (level_at FIRST) a.key) (key_slices a.h.now a.x.now a.y.now) a.t.now a.q.now a.delta.now a.values.now)) (key_slices a.h.now a.x.now a.y.now) (below 1 a.t.now) (withins (level_at FIRST) (a.q.now ∷ a.delta.now ∷ [])) Column [] tt c.before.before.values-refused.ensures,
+returns-in-Refused c =
+    let a = c.args in (
+      when_refused (values_rows (level_at FIRST) a.key (key_slices a.h.now a.x.now a.y.now) a.t.now a.q.now a.delta.now a.values.now) (value_words (level_at FIRST) (system (level_at FIRST) a.key (key_slices a.h.now a.x.now a.y.now)) a.t.now a.q.now a.delta.now) a.values.now c.values_refused-answer.ensures c.in-Refused.is,
+      leans FIRST a.key (long (values_lent (lengths (level_at FIRST) a.key) (key_slices a.h.now a.x.now a.y.now) a.t.now a.q.now a.delta.now a.values.now)) (key_slices a.h.now a.x.now a.y.now) (below 1 a.t.now) (withins (level_at FIRST) (a.q.now ∷ a.delta.now ∷ [])) Column [] tt c.values_refused-answer.ensures,
     )
 
-pub values-spec : {M : Type 1} → statement M
-values-spec =
+pub values_spec : {M : Type 1} → statement M
+values_spec =
     tie.close
     (tie.spec
-    values-refused-requires
-    enum_told
-    write-values-requires
-    enum-told-2
-    same_length
-    returns
-    same-length-2
-    returns-2)
+    values_refused-answer-requires
+    enum_told-1
+    write_values-requires
+    enum_told-in-Refused
+    shape_of-values-in-Done
+    returns-in-Done
+    shape_of-values-in-Refused
+    returns-in-Refused)

@@ -5,17 +5,23 @@ use lib.ListN.{get_or-eq_default}
 use Rattle.copying.proofs.byte_at.Statement.{statement}
 use Rattle.copying.proofs.byte_at.Tie as tie
 
-shared-slice-read-wide : tie.Need-shared-slice-read-wide
-shared-slice-read-wide c = search rules
+bounds-s-i : tie.Need-bounds-s-i
+bounds-s-i c = search rules
 
 wide-requires : tie.Need-wide-requires
 wide-requires c κs = search rules
 
-returns : tie.Need-returns
-returns c = search rules
+returns-then-i-s : tie.Need-returns-then-i-s
+returns-then-i-s c = search rules
 
-returns-2 : tie.Need-returns-2
-returns-2 c = (sym (get_or-eq_default c.before.before.args.s.now 0 c.if1.false), omega arith)
+returns-else-i-s : tie.Need-returns-else-i-s
+returns-else-i-s c = (sym (get_or-eq_default c.args.s.now 0 c.if-i-s.false), omega arith)
 
-pub byte-at-spec : {M : Type 1} → statement M
-byte-at-spec = tie.close (tie.spec shared-slice-read-wide wide-requires returns returns-2)
+pub byte_at_spec : {M : Type 1} → statement M
+byte_at_spec =
+    tie.close
+    (tie.spec
+    bounds-s-i
+    wide-requires
+    returns-then-i-s
+    returns-else-i-s)

@@ -8,61 +8,61 @@ use Rattle.copying.proofs.Filled.{paste_more}
 use Rattle.copying.proofs.put_bytes.Statement.{statement}
 use Rattle.copying.proofs.put_bytes.Tie as tie
 
-abbrev invariant-loop : tie.invariant-loop
-invariant-loop bytes at out₀ i₀ out i = (i ≤ length bytes) × (length out ≡ length out₀) × (out ≡ paste out₀ at bytes i)
+abbrev invariant-loop-i : tie.invariant-loop-i
+invariant-loop-i bytes at out₀ i₀ out i = (i ≤ length bytes) × (length out ≡ length out₀) × (out ≡ paste out₀ at bytes i)
 
-abbrev decreases-loop : tie.decreases-loop
-decreases-loop bytes at out₀ i₀ out i = length bytes - i
+abbrev decreases-loop-i : tie.decreases-loop-i
+decreases-loop-i bytes at out₀ i₀ out i = length bytes - i
 
-loop-holds : tie.Need-loop-init invariant-loop decreases-loop
-loop-holds c = (omega arith, refl, paste-zero c.args.out.now c.args.at c.args.bytes.now)
+loop-i-init : tie.Need-loop-i-init invariant-loop-i decreases-loop-i
+loop-i-init c = (omega arith, refl, paste-zero c.args.out.now c.args.at c.args.bytes.now)
 
-shared-slice-read-out : tie.Need-shared-slice-read-out invariant-loop decreases-loop
-shared-slice-read-out c = omega arith
+bounds-bytes-i : tie.Need-bounds-bytes-i invariant-loop-i decreases-loop-i
+bounds-bytes-i c = omega arith
 
-add-out : tie.Need-overflow-add-out invariant-loop decreases-loop
-add-out c = omega arith
+overflow_add-out : tie.Need-overflow_add-out invariant-loop-i decreases-loop-i
+overflow_add-out c = omega arith
 
-slice-write-out : tie.Need-slice-write-out invariant-loop decreases-loop
-slice-write-out c = omega arith
+bounds-out-at : tie.Need-bounds-out-at invariant-loop-i decreases-loop-i
+bounds-out-at c = omega arith
 
-add-i : tie.Need-overflow-add-i invariant-loop decreases-loop
-add-i c = omega arith
+overflow_add-i : tie.Need-overflow_add-i invariant-loop-i decreases-loop-i
+overflow_add-i c = omega arith
 
-loop-less : tie.Need-loop-smaller invariant-loop decreases-loop
-loop-less c = omega arith
+loop-i-smaller : tie.Need-loop-i-smaller invariant-loop-i decreases-loop-i
+loop-i-smaller c = omega arith
 
-loop-again : tie.Need-loop-preserved invariant-loop decreases-loop
-loop-again c =
-    let l = c.before.before.loop in
-    let a = c.before.before.before.args in
+loop-i-preserved : tie.Need-loop-i-preserved invariant-loop-i decreases-loop-i
+loop-i-preserved c =
+    let l = c.loop-i in
+    let a = c.args in
     (omega arith, simp length-set l.invariant.1, paste_more a.out.now a.at a.bytes.now l.i l.invariant.2 refl refl (omega arith) (omega arith))
 
-add-result : tie.Need-overflow-add-result invariant-loop decreases-loop
-add-result c = omega arith
+overflow_add-result : tie.Need-overflow_add-result invariant-loop-i decreases-loop-i
+overflow_add-result c = omega arith
 
-same_length : tie.Need-same-length invariant-loop decreases-loop
-same_length c = c.before.loop.invariant.1
+shape_of-out : tie.Need-shape_of-out invariant-loop-i decreases-loop-i
+shape_of-out c = c.loop-i.invariant.1
 
-returns : tie.Need-returns invariant-loop decreases-loop
+returns : tie.Need-returns invariant-loop-i decreases-loop-i
 returns c =
-    let l = c.before.loop in
-    let a = c.before.before.args in
+    let l = c.loop-i in
+    let a = c.args in
     (l.invariant.2 ∙ put_pasted a.at l.i a.bytes.now a.out.now (omega arith), omega arith)
 
-pub put-bytes-spec : {M : Type 1} → statement M
-put-bytes-spec =
+pub put_bytes_spec : {M : Type 1} → statement M
+put_bytes_spec =
     tie.close
     (tie.spec
-    invariant-loop
-    decreases-loop
-    loop-holds
-    shared-slice-read-out
-    add-out
-    slice-write-out
-    add-i
-    loop-less
-    loop-again
-    add-result
-    same_length
+    invariant-loop-i
+    decreases-loop-i
+    loop-i-init
+    bounds-bytes-i
+    overflow_add-out
+    bounds-out-at
+    overflow_add-i
+    loop-i-smaller
+    loop-i-preserved
+    overflow_add-result
+    shape_of-out
     returns)

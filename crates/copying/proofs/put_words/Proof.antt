@@ -20,85 +20,85 @@ two-more d at s i e f h b p q =
     let both : 2 * i + 1 + 1 ≡ 2 * (i + 1) = omega arith in
     paste_more d at (word_bytes s) (2 * i + 1) first (omega arith) (q ∙ sym (bytes_low s i)) (omega arith) (omega arith) ∙ ap (paste d at (word_bytes s)) both
 
-abbrev invariant-loop : tie.invariant-loop
-invariant-loop words at out₀ i₀ k₀ out i k = (i ≤ length words) × (k ≡ at + 2 * i) × (length out ≡ length out₀) × (out ≡ paste out₀ at (word_bytes words) (2 * i))
+abbrev invariant-loop-i : tie.invariant-loop-i
+invariant-loop-i words at out₀ i₀ k₀ out i k = (i ≤ length words) × (k ≡ at + 2 * i) × (length out ≡ length out₀) × (out ≡ paste out₀ at (word_bytes words) (2 * i))
 
-abbrev decreases-loop : tie.decreases-loop
-decreases-loop words at out₀ i₀ k₀ out i k = length words - i
+abbrev decreases-loop-i : tie.decreases-loop-i
+decreases-loop-i words at out₀ i₀ k₀ out i k = length words - i
 
-loop-holds : tie.Need-loop-init invariant-loop decreases-loop
-loop-holds c = (omega arith, omega arith, refl, paste-zero c.args.out.now c.args.at (word_bytes c.args.words.now))
+loop-i-init : tie.Need-loop-i-init invariant-loop-i decreases-loop-i
+loop-i-init c = (omega arith, omega arith, refl, paste-zero c.args.out.now c.args.at (word_bytes c.args.words.now))
 
-mul-x : tie.Need-overflow-mul-x invariant-loop decreases-loop
-mul-x c = omega arith
+offset_bounds-words-i : tie.Need-offset_bounds-words-i invariant-loop-i decreases-loop-i
+offset_bounds-words-i c = omega arith
 
-shared-slice-read-x : tie.Need-shared-slice-read-x invariant-loop decreases-loop
-shared-slice-read-x c = omega arith
+bounds-words-i : tie.Need-bounds-words-i invariant-loop-i decreases-loop-i
+bounds-words-i c = omega arith
 
-mul-exchanged : tie.Need-overflow-mul-exchanged invariant-loop decreases-loop
-mul-exchanged c = omega arith
+overflow_mul-exchanged : tie.Need-overflow_mul-exchanged invariant-loop-i decreases-loop-i
+overflow_mul-exchanged c = omega arith
 
-add-exchanged : tie.Need-overflow-add-exchanged invariant-loop decreases-loop
-add-exchanged c = omega (arith, c.shared-slice-known.given c.before.before.loop.i)
+overflow_add-exchanged : tie.Need-overflow_add-exchanged invariant-loop-i decreases-loop-i
+overflow_add-exchanged c = omega (arith, c.shared_slice_known-1.given c.loop-i.i)
 
-cast-out : tie.Need-overflow-cast-out invariant-loop decreases-loop
-cast-out c = omega arith
+overflow_cast-out : tie.Need-overflow_cast-out invariant-loop-i decreases-loop-i
+overflow_cast-out c = omega arith
 
-slice-write-out : tie.Need-slice-write-out invariant-loop decreases-loop
-slice-write-out c = omega arith
+bounds-out-k : tie.Need-bounds-out-k invariant-loop-i decreases-loop-i
+bounds-out-k c = omega arith
 
-cast-out-2 : tie.Need-overflow-cast-out-2 invariant-loop decreases-loop
-cast-out-2 c = omega (arith, c.shared-slice-known.given c.before.before.loop.i)
+overflow_cast-out-in-loop-i : tie.Need-overflow_cast-out-in-loop-i invariant-loop-i decreases-loop-i
+overflow_cast-out-in-loop-i c = omega (arith, c.shared_slice_known-1.given c.loop-i.i)
 
-add-out : tie.Need-overflow-add-out invariant-loop decreases-loop
-add-out c = omega arith
+overflow_add-out : tie.Need-overflow_add-out invariant-loop-i decreases-loop-i
+overflow_add-out c = omega arith
 
-slice-write-out-2 : tie.Need-slice-write-out-2 invariant-loop decreases-loop
-slice-write-out-2 c = simp length-set (omega arith)
+bounds-out-k-in-loop-i : tie.Need-bounds-out-k-in-loop-i invariant-loop-i decreases-loop-i
+bounds-out-k-in-loop-i c = simp length-set (omega arith)
 
-add-i : tie.Need-overflow-add-i invariant-loop decreases-loop
-add-i c = omega arith
+overflow_add-i : tie.Need-overflow_add-i invariant-loop-i decreases-loop-i
+overflow_add-i c = omega arith
 
-add-k : tie.Need-overflow-add-k invariant-loop decreases-loop
-add-k c = omega arith
+overflow_add-k : tie.Need-overflow_add-k invariant-loop-i decreases-loop-i
+overflow_add-k c = omega arith
 
-loop-less : tie.Need-loop-smaller invariant-loop decreases-loop
-loop-less c = omega arith
+loop-i-smaller : tie.Need-loop-i-smaller invariant-loop-i decreases-loop-i
+loop-i-smaller c = omega arith
 
-loop-again : tie.Need-loop-preserved invariant-loop decreases-loop
-loop-again c =
-    let l = c.before.before.loop in
-    let a = c.before.before.before.args in
-    (omega arith, omega arith, simp length-set l.invariant.2, two-more a.out.now a.at a.words.now l.i l.invariant.3 l.invariant.1 (omega arith) (omega arith) (omega (arith, c.shared-slice-known.given l.i)) (omega (arith, c.shared-slice-known.given l.i)))
+loop-i-preserved : tie.Need-loop-i-preserved invariant-loop-i decreases-loop-i
+loop-i-preserved c =
+    let l = c.loop-i in
+    let a = c.args in
+    (omega arith, omega arith, simp length-set l.invariant.2, two-more a.out.now a.at a.words.now l.i l.invariant.3 l.invariant.1 (omega arith) (omega arith) (omega (arith, c.shared_slice_known-1.given l.i)) (omega (arith, c.shared_slice_known-1.given l.i)))
 
-same_length : tie.Need-same-length invariant-loop decreases-loop
-same_length c = c.before.loop.invariant.2
+shape_of-out : tie.Need-shape_of-out invariant-loop-i decreases-loop-i
+shape_of-out c = c.loop-i.invariant.2
 
-returns : tie.Need-returns invariant-loop decreases-loop
+returns : tie.Need-returns invariant-loop-i decreases-loop-i
 returns c =
-    let l = c.before.loop in
-    let a = c.before.before.args in
+    let l = c.loop-i in
+    let a = c.args in
     (l.invariant.3 ∙ put_pasted a.at (2 * l.i) (word_bytes a.words.now) a.out.now (omega (arith, bytes-length a.words.now)), omega arith)
 
-pub put-words-spec : {M : Type 1} → statement M
-put-words-spec =
+pub put_words_spec : {M : Type 1} → statement M
+put_words_spec =
     tie.close
     (tie.spec
-    invariant-loop
-    decreases-loop
-    loop-holds
-    mul-x
-    shared-slice-read-x
-    mul-exchanged
-    add-exchanged
-    cast-out
-    slice-write-out
-    cast-out-2
-    add-out
-    slice-write-out-2
-    add-i
-    add-k
-    loop-less
-    loop-again
-    same_length
+    invariant-loop-i
+    decreases-loop-i
+    loop-i-init
+    offset_bounds-words-i
+    bounds-words-i
+    overflow_mul-exchanged
+    overflow_add-exchanged
+    overflow_cast-out
+    bounds-out-k
+    overflow_cast-out-in-loop-i
+    overflow_add-out
+    bounds-out-k-in-loop-i
+    overflow_add-i
+    overflow_add-k
+    loop-i-smaller
+    loop-i-preserved
+    shape_of-out
     returns)

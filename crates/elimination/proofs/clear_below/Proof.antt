@@ -16,162 +16,158 @@ use borrow.Author.Rules.{rules}
 use Rattle.elimination.proofs.clear_below.Statement.{statement}
 use Rattle.elimination.proofs.clear_below.Tie as tie
 
-abbrev invariant-loop : tie.invariant-loop
-invariant-loop matrix used p n m c level start row₀ j₀ row j = (c ≤ j) × (j ≤ n) × (length row ≡ 128) × Words (level_at level) row × ((i : ℕ) → i < j → c ≤ i → get_or row i 0 ≡ get_or matrix (start + i) 0)
+abbrev invariant-loop-j : tie.invariant-loop-j
+invariant-loop-j matrix used p n m c level start row₀ j₀ row j = (c ≤ j) × (j ≤ n) × (length row ≡ 128) × Words (level_at level) row × ((i : ℕ) → i < j → c ≤ i → get_or row i 0 ≡ get_or matrix (start + i) 0)
 
-abbrev decreases-loop : tie.decreases-loop
-decreases-loop matrix used p n m c level start row₀ j₀ row j = n - j
+abbrev decreases-loop-j : tie.decreases-loop-j
+decreases-loop-j matrix used p n m c level start row₀ j₀ row j = n - j
 
-mul-start : tie.Need-overflow-mul-start invariant-loop decreases-loop
-mul-start c = omega (arith, row-end c.before.before.args.n c.before.before.args.p c.before.before.args.m (omega arith) (omega arith), c.before.before.requires.0.0)
+overflow_mul-start : tie.Need-overflow_mul-start invariant-loop-j decreases-loop-j
+overflow_mul-start c = omega (arith, row-end c.args.n c.args.p c.args.m (omega arith) (omega arith), c.requires.0.0)
 
-loop-holds : tie.Need-loop-init invariant-loop decreases-loop
-loop-holds c = (omega arith, omega arith, refl, words-zeros (level_at c.before.before.args.level) 128, λ i a b. absurd (omega arith))
+loop-j-init : tie.Need-loop-j-init invariant-loop-j decreases-loop-j
+loop-j-init c = (omega arith, omega arith, refl, words-zeros (level_at c.args.level) 128, λ i a b. absurd (omega arith))
 
-add_row : tie.Need-overflow-add-row invariant-loop decreases-loop
-add_row c = omega (arith, row-end c.before.before.before.before.args.n c.before.before.before.before.args.p c.before.before.before.before.args.m (omega arith) (omega arith), c.before.before.before.before.requires.0.0)
+overflow_add-row : tie.Need-overflow_add-row invariant-loop-j decreases-loop-j
+overflow_add-row c = omega (arith, row-end c.args.n c.args.p c.args.m (omega arith) (omega arith), c.requires.0.0)
 
-mul-row : tie.Need-overflow-mul-row invariant-loop decreases-loop
-mul-row c = omega (arith, row-end c.before.before.before.before.args.n c.before.before.before.before.args.p c.before.before.before.before.args.m (omega arith) (omega arith), c.before.before.before.before.requires.0.0)
+offset_bounds-matrix-start : tie.Need-offset_bounds-matrix-start invariant-loop-j decreases-loop-j
+offset_bounds-matrix-start c = omega (arith, row-end c.args.n c.args.p c.args.m (omega arith) (omega arith), c.requires.0.0)
 
-slice-read-row : tie.Need-slice-read-row invariant-loop decreases-loop
-slice-read-row c = omega (arith, row-end c.before.before.before.before.before.args.n c.before.before.before.before.before.args.p c.before.before.before.before.before.args.m (omega arith) (omega arith), c.before.before.before.before.before.requires.0.0)
+bounds-matrix-start : tie.Need-bounds-matrix-start invariant-loop-j decreases-loop-j
+bounds-matrix-start c = omega (arith, row-end c.args.n c.args.p c.args.m (omega arith) (omega arith), c.requires.0.0)
 
-mul-row-2 : tie.Need-overflow-mul-row-2 invariant-loop decreases-loop
-mul-row-2 c = search rules
+offset_bounds-row-j : tie.Need-offset_bounds-row-j invariant-loop-j decreases-loop-j
+offset_bounds-row-j c = search rules
 
-array-write-row : tie.Need-array-write-row invariant-loop decreases-loop
-array-write-row c = search rules
+bounds-row-j : tie.Need-bounds-row-j invariant-loop-j decreases-loop-j
+bounds-row-j c = search rules
 
-add-j : tie.Need-overflow-add-j invariant-loop decreases-loop
-add-j c = search rules
+overflow_add-j : tie.Need-overflow_add-j invariant-loop-j decreases-loop-j
+overflow_add-j c = search rules
 
-loop-less : tie.Need-loop-smaller invariant-loop decreases-loop
-loop-less c = search rules
+loop-j-smaller : tie.Need-loop-j-smaller invariant-loop-j decreases-loop-j
+loop-j-smaller c = search rules
 
-loop-again : tie.Need-loop-preserved invariant-loop decreases-loop
-loop-again c =
-    let l = c.before.before.loop in
-    let s = c.before.before.before.before.before in
-    let h = s.args.matrix.now in
-    let k : ℕ = s.args.p * s.args.n in (
+loop-j-preserved : tie.Need-loop-j-preserved invariant-loop-j decreases-loop-j
+loop-j-preserved c =
+    let l = c.loop-j in
+    let h = c.args.matrix.now in
+    let k : ℕ = c.args.p * c.args.n in (
       omega arith,
       omega arith,
       simp length-set l.invariant.2,
-      words-set (level_at s.args.level) l.row l.j (get_or h (k + l.j) 0) l.invariant.3 (s.requires.1.0 (k + l.j)),
-      set_more (λ i v. s.args.c ≤ i → v ≡ get_or h (k + i) 0) l.row l.j (get_or h (k + l.j) 0) (omega arith) l.invariant.4 (λ _. refl),
+      words-set (level_at c.args.level) l.row l.j (get_or h (k + l.j) 0) l.invariant.3 (c.requires.1.0 (k + l.j)),
+      set_more (λ i v. c.args.c ≤ i → v ≡ get_or h (k + i) 0) l.row l.j (get_or h (k + l.j) 0) (omega arith) l.invariant.4 (λ _. refl),
     )
 
-mul-inverse : tie.Need-overflow-mul-inverse invariant-loop decreases-loop
-mul-inverse c = search rules
+offset_bounds-row-c : tie.Need-offset_bounds-row-c invariant-loop-j decreases-loop-j
+offset_bounds-row-c c = search rules
 
-array-read-inverse : tie.Need-array-read-inverse invariant-loop decreases-loop
-array-read-inverse c = search rules
+bounds-row-c : tie.Need-bounds-row-c invariant-loop-j decreases-loop-j
+bounds-row-c c = search rules
 
-inverse-requires : tie.Need-inverse-requires invariant-loop decreases-loop
-inverse-requires c κs =
-    let l = c.before.loop in
-    let s = c.before.before.before.before in
-    let a = s.args in
+inverse-v-requires : tie.Need-inverse-v-requires invariant-loop-j decreases-loop-j
+inverse-v-requires c κs =
+    let l = c.loop-j in
+    let a = c.args in
     let e = l.invariant.4 a.c (omega arith) (omega arith) in
-    (omega (arith, e, s.requires.1.1), omega (arith, l.invariant.3 a.c, (bounded a.level).whole))
+    (omega (arith, e, c.requires.1.1), omega (arith, l.invariant.3 a.c, (bounded a.level).whole))
 
-add-rest : tie.Need-overflow-add-rest invariant-loop decreases-loop
-add-rest c = omega (arith, row-end c.before.before.before.before.before.args.n c.before.before.before.before.before.args.p c.before.before.before.before.before.args.m (omega arith) (omega arith), c.before.before.before.before.before.requires.0.0)
+overflow_add-rest : tie.Need-overflow_add-rest invariant-loop-j decreases-loop-j
+overflow_add-rest c = omega (arith, row-end c.args.n c.args.p c.args.m (omega arith) (omega arith), c.requires.0.0)
 
-mul-clear : tie.Need-overflow-mul-clear invariant-loop decreases-loop
-mul-clear c = omega (arith, row-end c.before.before.before.before.before.args.n c.before.before.before.before.before.args.p c.before.before.before.before.before.args.m (omega arith) (omega arith), c.before.before.before.before.before.requires.0.0)
+offset_bounds-matrix-rest : tie.Need-offset_bounds-matrix-rest invariant-loop-j decreases-loop-j
+offset_bounds-matrix-rest c = omega (arith, row-end c.args.n c.args.p c.args.m (omega arith) (omega arith), c.requires.0.0)
 
-sub-clear : tie.Need-overflow-sub-clear invariant-loop decreases-loop
-sub-clear c = omega (arith, row-end c.before.before.before.before.before.args.n c.before.before.before.before.before.args.p c.before.before.before.before.before.args.m (omega arith) (omega arith), c.before.before.before.before.before.requires.0.0)
+slice_bounds-clear-count : tie.Need-slice_bounds-clear-count invariant-loop-j decreases-loop-j
+slice_bounds-clear-count c = omega (arith, row-end c.args.n c.args.p c.args.m (omega arith) (omega arith), c.requires.0.0)
 
-part-clear-start : tie.Need-slice-bounds-clear-start invariant-loop decreases-loop
-part-clear-start c = omega (arith, row-end c.before.before.before.before.before.args.n c.before.before.before.before.before.args.p c.before.before.before.before.before.args.m (omega arith) (omega arith), c.before.before.before.before.before.requires.0.0)
+slice_bounds-clear-start : tie.Need-slice_bounds-clear-start invariant-loop-j decreases-loop-j
+slice_bounds-clear-start c = omega (arith, row-end c.args.n c.args.p c.args.m (omega arith) (omega arith), c.requires.0.0)
 
-part-clear-end : tie.Need-slice-bounds-clear-end invariant-loop decreases-loop
-part-clear-end c = search rules
+slice_bounds-clear-end : tie.Need-slice_bounds-clear-end invariant-loop-j decreases-loop-j
+slice_bounds-clear-end c = search rules
 
-mul-clear-2 : tie.Need-overflow-mul-clear-2 invariant-loop decreases-loop
-mul-clear-2 c = search rules
+offset_bounds-row-c-2 : tie.Need-offset_bounds-row-c-2 invariant-loop-j decreases-loop-j
+offset_bounds-row-c-2 c = search rules
 
-sub-clear-2 : tie.Need-overflow-sub-clear-2 invariant-loop decreases-loop
-sub-clear-2 c = search rules
+slice_bounds-clear-count-2 : tie.Need-slice_bounds-clear-count-2 invariant-loop-j decreases-loop-j
+slice_bounds-clear-count-2 c = search rules
 
-part-clear-start-2 : tie.Need-slice-bounds-clear-start-2 invariant-loop decreases-loop
-part-clear-start-2 c = search rules
+slice_bounds-clear-start-2 : tie.Need-slice_bounds-clear-start-2 invariant-loop-j decreases-loop-j
+slice_bounds-clear-start-2 c = search rules
 
-part-clear-end-2 : tie.Need-slice-bounds-clear-end-2 invariant-loop decreases-loop
-part-clear-end-2 c = search rules
+slice_bounds-clear-end-2 : tie.Need-slice_bounds-clear-end-2 invariant-loop-j decreases-loop-j
+slice_bounds-clear-end-2 c = search rules
 
-add-clear : tie.Need-overflow-add-clear invariant-loop decreases-loop
-add-clear c = search rules
+overflow_add-p : tie.Need-overflow_add-p invariant-loop-j decreases-loop-j
+overflow_add-p c = search rules
 
-sub-clear-3 : tie.Need-overflow-sub-clear-3 invariant-loop decreases-loop
-sub-clear-3 c = search rules
+overflow_sub-m : tie.Need-overflow_sub-m invariant-loop-j decreases-loop-j
+overflow_sub-m c = search rules
 
-sub-clear-4 : tie.Need-overflow-sub-clear-4 invariant-loop decreases-loop
-sub-clear-4 c = search rules
+overflow_sub-m-2 : tie.Need-overflow_sub-m-2 invariant-loop-j decreases-loop-j
+overflow_sub-m-2 c = search rules
 
-clear-requires : tie.Need-clear-requires invariant-loop decreases-loop
+clear-requires : tie.Need-clear-requires invariant-loop-j decreases-loop-j
 clear-requires c κs =
-    let s = c.before.before.before.before.before.before.before.before in
-    let l = c.before.before.before.before.before.loop in
-    let a = s.args in
+    let l = c.loop-j in
+    let a = c.args in
     let h = a.matrix.now in
     let k : ℕ = a.p * a.n + a.n in (
-      (ap length (tail-lent k h) ∙ rest-length a.m a.n a.p h s.requires.0.0 s.requires.0.5, omega arith, omega arith, omega arith, omega arith, omega (arith, part_length a.c (a.n - a.c) l.row (omega arith))),
-      (words-part (level_at a.level) k (length h - k) h s.requires.1.0, words-part (level_at a.level) a.c (a.n - a.c) l.row l.invariant.3, subst (λ x. x < 2 ^ (level_at a.level).width) (sym c.before.before.before.inverse.ensures.0) (word_lt (level_at a.level) (inverse (level_at a.level) (small (level_at a.level) (get_or l.row a.c 0))))),
+      (ap length (tail-lent k h) ∙ rest-length a.m a.n a.p h c.requires.0.0 c.requires.0.5, omega arith, omega arith, omega arith, omega arith, omega (arith, part_length a.c (a.n - a.c) l.row (omega arith))),
+      (words-part (level_at a.level) k (length h - k) h c.requires.1.0, words-part (level_at a.level) a.c (a.n - a.c) l.row l.invariant.3, subst (λ x. x < 2 ^ (level_at a.level).width) (sym c.inverse-v.ensures.0) (word_lt (level_at a.level) (inverse (level_at a.level) (small (level_at a.level) (get_or l.row a.c 0))))),
     )
 
-same_length : tie.Need-same-length invariant-loop decreases-loop
-same_length c = search rules
+shape_of-matrix : tie.Need-shape_of-matrix invariant-loop-j decreases-loop-j
+shape_of-matrix c = search rules
 
-returns : tie.Need-returns invariant-loop decreases-loop
+returns : tie.Need-returns invariant-loop-j decreases-loop-j
 returns c =
-    let s = c.before.before.before.before.before.before.before.before.before.before.before in
-    let l = c.before.before.before.before.before.before.before.before.loop in
-    let a = s.args in
+    let l = c.loop-j in
+    let a = c.args in
     let L = level_at a.level in
     let h = a.matrix.now in
     let k : ℕ = a.p * a.n + a.n in
     let r : List ℕ = take (a.n - a.c) (drop a.c l.row) in
     let e : get_or l.row a.c 0 ≡ entry_at a.n h a.p a.c = l.invariant.4 a.c (omega arith) (omega arith) in
     let row : (j : ℕ) → a.c ≤ j → j < a.n → get_or r (j - a.c) 0 ≡ entry_at a.n h a.p j = λ j p q. part_at a.c (a.n - a.c) l.row (j - a.c) (omega arith) ∙ ap (λ i. get_or l.row i 0) {x = a.c + (j - a.c)} {y = j} (omega arith) ∙ l.invariant.4 j (omega arith) p in
-    rw (tail-back k h c.before.before.clear.new.0)
-    (whole L a.m a.n a.p a.c c.before.before.before.before.before.before.inverse.result (word L (inverse L (small L (entry_at a.n h a.p a.c)))) a.used.now r h c.before.before.clear.new.0 s.requires.0.0 s.requires.0.5 s.requires.0.4
-    (c.before.before.before.before.before.before.inverse.ensures.0 ∙ ap (λ x. word L (inverse L (small L x))) e) row (rw (tail-lent k h) at c.before.before.clear.ensures))
+    rw (tail-back k h c.clear.new.rest)
+    (whole L a.m a.n a.p a.c c.inverse-v.result (word L (inverse L (small L (entry_at a.n h a.p a.c)))) a.used.now r h c.clear.new.rest c.requires.0.0 c.requires.0.5 c.requires.0.4
+    (c.inverse-v.ensures.0 ∙ ap (λ x. word L (inverse L (small L x))) e) row (rw (tail-lent k h) at c.clear.ensures))
 
-pub clear-below-spec : {M : Type 1} → statement M
-clear-below-spec =
+pub clear_below_spec : {M : Type 1} → statement M
+clear_below_spec =
     tie.close
     (tie.spec
-    invariant-loop
-    decreases-loop
-    mul-start
-    loop-holds
-    add_row
-    mul-row
-    slice-read-row
-    mul-row-2
-    array-write-row
-    add-j
-    loop-less
-    loop-again
-    mul-inverse
-    array-read-inverse
-    inverse-requires
-    add-rest
-    mul-clear
-    sub-clear
-    part-clear-start
-    part-clear-end
-    mul-clear-2
-    sub-clear-2
-    part-clear-start-2
-    part-clear-end-2
-    add-clear
-    sub-clear-3
-    sub-clear-4
+    invariant-loop-j
+    decreases-loop-j
+    overflow_mul-start
+    loop-j-init
+    overflow_add-row
+    offset_bounds-matrix-start
+    bounds-matrix-start
+    offset_bounds-row-j
+    bounds-row-j
+    overflow_add-j
+    loop-j-smaller
+    loop-j-preserved
+    offset_bounds-row-c
+    bounds-row-c
+    inverse-v-requires
+    overflow_add-rest
+    offset_bounds-matrix-rest
+    slice_bounds-clear-count
+    slice_bounds-clear-start
+    slice_bounds-clear-end
+    offset_bounds-row-c-2
+    slice_bounds-clear-count-2
+    slice_bounds-clear-start-2
+    slice_bounds-clear-end-2
+    overflow_add-p
+    overflow_sub-m
+    overflow_sub-m-2
     clear-requires
-    same_length
+    shape_of-matrix
     returns)

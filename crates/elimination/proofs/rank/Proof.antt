@@ -12,18 +12,23 @@ copy-requires c κs = search rules
 
 eliminate-requires : tie.Need-eliminate-requires
 eliminate-requires c κs =
-    let s = c.before.before.before.before.before.before.before in
-    let e = c.before.before.before.copy.ensures in
-    (ap length e ∙ s.requires.0, s.requires.2, s.requires.3, λ k. subst (λ x. get_or x k 0 < 2 ^ (level_at s.args.level).width) (sym e) (s.requires.4 k))
+    let e = c.copy.ensures in
+    (ap length e ∙ c.requires.0, c.requires.2, c.requires.3, λ k. subst (λ x. get_or x k 0 < 2 ^ (level_at c.args.level).width) (sym e) (c.requires.4 k))
 
-same_length : tie.Need-same-length
-same_length c = search rules
+shape_of-matrix : tie.Need-shape_of-matrix
+shape_of-matrix c = search rules
 
 returns : tie.Need-returns
 returns c =
-    let a = c.before.before.before.before.before.before.before.before.before.before.args in
-    let e = c.before.before.before.before.before.before.copy.ensures in
-    (c.before.before.eliminate.ensures.0 ∙ ap (rank_of (level_at a.level) a.n a.m) e, c.before.before.eliminate.ensures.1 ∙ ap (cleared_words (level_at a.level) a.n a.m) e)
+    let a = c.args in
+    let e = c.copy.ensures in
+    (c.eliminate.ensures.0 ∙ ap (rank_of (level_at a.level) a.n a.m) e, c.eliminate.ensures.1 ∙ ap (cleared_words (level_at a.level) a.n a.m) e)
 
-pub rank-spec : {M : Type 1} → statement M
-rank-spec = tie.close (tie.spec copy-requires eliminate-requires same_length returns)
+pub rank_spec : {M : Type 1} → statement M
+rank_spec =
+    tie.close
+    (tie.spec
+    copy-requires
+    eliminate-requires
+    shape_of-matrix
+    returns)

@@ -29,61 +29,61 @@ limits : (number : ℕ) (s : List ℕ) → all (λ x. ltb x (2 ^ (level_at numbe
 unfolding within
 limits number s = every (λ l. all (λ x. ltb x (2 ^ l.width)) s ≡ within l s) number (ap (λ p. all p s) (λ k x. leb-suc-suc x 2047 k)) (ap (λ p. all p s) (λ k x. leb-suc-suc x 4095 k))
 
-abbrev invariant-loop : tie.invariant-loop
-invariant-loop s level any₀ i₀ any i = (i ≤ length s) × ((w : ℕ) → ltb any (2 ^ w) ≡ all (λ x. ltb x (2 ^ w)) (take i s))
+abbrev invariant-loop-i : tie.invariant-loop-i
+invariant-loop-i s level any₀ i₀ any i = (i ≤ length s) × ((w : ℕ) → ltb any (2 ^ w) ≡ all (λ x. ltb x (2 ^ w)) (take i s))
 
-abbrev decreases-loop : tie.decreases-loop
-decreases-loop s level any₀ i₀ any i = length s - i
+abbrev decreases-loop-i : tie.decreases-loop-i
+decreases-loop-i s level any₀ i₀ any i = length s - i
 
-loop-holds : tie.Need-loop-init invariant-loop decreases-loop
+loop-i-init : tie.Need-loop-i-init invariant-loop-i decreases-loop-i
 unfolding all
-loop-holds c = (omega arith, λ w. lt-ltb 0 (2 ^ w) (pow_pos w))
+loop-i-init c = (omega arith, λ w. lt-ltb 0 (2 ^ w) (pow_pos w))
 
-mul-any : tie.Need-overflow-mul-any invariant-loop decreases-loop
-mul-any c = search rules
+offset_bounds-s-i : tie.Need-offset_bounds-s-i invariant-loop-i decreases-loop-i
+offset_bounds-s-i c = search rules
 
-shared-slice-read-any : tie.Need-shared-slice-read-any invariant-loop decreases-loop
-shared-slice-read-any c = search rules
+bounds-s-i : tie.Need-bounds-s-i invariant-loop-i decreases-loop-i
+bounds-s-i c = search rules
 
-add-i : tie.Need-overflow-add-i invariant-loop decreases-loop
-add-i c = search rules
+overflow_add-i : tie.Need-overflow_add-i invariant-loop-i decreases-loop-i
+overflow_add-i c = search rules
 
-loop-less : tie.Need-loop-smaller invariant-loop decreases-loop
-loop-less c = search rules
+loop-i-smaller : tie.Need-loop-i-smaller invariant-loop-i decreases-loop-i
+loop-i-smaller c = search rules
 
-loop-again : tie.Need-loop-preserved invariant-loop decreases-loop
-loop-again c =
-    let l = c.before.before.loop in
-    let s = c.before.before.before.before.args.s.now in
+loop-i-preserved : tie.Need-loop-i-preserved invariant-loop-i decreases-loop-i
+loop-i-preserved c =
+    let l = c.loop-i in
+    let s = c.args.s.now in
     (omega arith, λ w. or-below w l.any (get_or s l.i 0) ∙ ap (λ b. b && ltb (get_or s l.i 0) (2 ^ w)) (l.invariant.1 w) ∙ sym (all_more (λ x. ltb x (2 ^ w)) s l.i (omega arith)))
 
-of-requires : tie.Need-of-requires invariant-loop decreases-loop
-of-requires c κs = search rules
+of-l-requires : tie.Need-of-l-requires invariant-loop-i decreases-loop-i
+of-l-requires c κs = search rules
 
-cast-result : tie.Need-overflow-cast-result invariant-loop decreases-loop
-cast-result c = omega (arith, ap (λ (l : Level). l.width) c.before.of.ensures, (bounded c.before.before.before.before.before.args.level).short)
+overflow_cast-result : tie.Need-overflow_cast-result invariant-loop-i decreases-loop-i
+overflow_cast-result c = omega (arith, ap (λ (l : Level). l.width) c.of-l.ensures, (bounded c.args.level).short)
 
-shr-result : tie.Need-overflow-shr-result invariant-loop decreases-loop
-shr-result c = omega (arith, ap (λ (l : Level). l.width) c.before.of.ensures, (bounded c.before.before.before.before.before.args.level).short)
+overflow_shr-result : tie.Need-overflow_shr-result invariant-loop-i decreases-loop-i
+overflow_shr-result c = omega (arith, ap (λ (l : Level). l.width) c.of-l.ensures, (bounded c.args.level).short)
 
-returns : tie.Need-returns invariant-loop decreases-loop
+returns : tie.Need-returns invariant-loop-i decreases-loop-i
 returns c =
-    let s = c.before.before.before.before.before.args.s.now in
-    ap (λ (l : Level). eqb (c.before.before.before.loop.any / 2 ^ l.width) 0) c.before.of.ensures ∙ passed c.before.before.before.loop.any c.before.before.before.loop.i s (omega arith) (level_at c.before.before.before.before.before.args.level).width (c.before.before.before.loop.invariant.1 _) ∙ limits c.before.before.before.before.before.args.level s
+    let s = c.args.s.now in
+    ap (λ (l : Level). eqb (c.loop-i.any / 2 ^ l.width) 0) c.of-l.ensures ∙ passed c.loop-i.any c.loop-i.i s (omega arith) (level_at c.args.level).width (c.loop-i.invariant.1 _) ∙ limits c.args.level s
 
-pub excess-spec : {M : Type 1} → statement M
-excess-spec =
+pub excess_spec : {M : Type 1} → statement M
+excess_spec =
     tie.close
     (tie.spec
-    invariant-loop
-    decreases-loop
-    loop-holds
-    mul-any
-    shared-slice-read-any
-    add-i
-    loop-less
-    loop-again
-    of-requires
-    cast-result
-    shr-result
+    invariant-loop-i
+    decreases-loop-i
+    loop-i-init
+    offset_bounds-s-i
+    bounds-s-i
+    overflow_add-i
+    loop-i-smaller
+    loop-i-preserved
+    of-l-requires
+    overflow_cast-result
+    overflow_shr-result
     returns)

@@ -7,11 +7,15 @@ use lib.Pow.{shl_exact}
 use Rattle.folding.proofs.power.Statement.{statement}
 use Rattle.folding.proofs.power.Tie as tie
 
-shl-result : tie.Need-overflow-shl-result
-shl-result c = search rules
+overflow_shl-result : tie.Need-overflow_shl-result
+overflow_shl-result c = search rules
 
 returns : tie.Need-returns
 returns c = shl_exact {a = 1} 1 c.args.e 64 (omega arith) (omega arith) ∙ one-mul (2 ^ c.args.e)
 
-pub power-spec : {M : Type 1} → statement M
-power-spec = tie.close (tie.spec shl-result returns)
+pub power_spec : {M : Type 1} → statement M
+power_spec =
+    tie.close
+    (tie.spec
+    overflow_shl-result
+    returns)

@@ -60,7 +60,7 @@ loop-holds c =
     let s = c.before.before.before in
     let a = s.before.args in
     let w = begun a.first.now a.second.now a.start (λ i. omega (arith, s.shared-slice-known.given i)) (λ i. omega (arith, c.before.before.shared-slice-known2.given i)) s.before.requires.0 c.key-at.ensures in
-    (w.sized, s.before.requires.1, put.putting-start c.key-at.result w.sized a.first.now a.second.now (groups_of (level_at FIRST) a.first.now) (groups_of (level_at FIRST) a.second.now) a.out.now a.start s.before.requires.1 w.one w.two)
+    (w.sized, s.before.requires.1, put.putting_start c.key-at.result w.sized a.first.now a.second.now (groups_of (level_at FIRST) a.first.now) (groups_of (level_at FIRST) a.second.now) a.out.now a.start s.before.requires.1 w.one w.two)
 
 put-part-requires : tie.Need-put-part-requires invariant-loop decreases-loop
 put-part-requires c κs =

@@ -16,13 +16,19 @@ excess-requires-3 c κs = search rules
 
 returns : tie.Need-returns
 returns c =
-    let a = c.before.before.before.before.before.before.args in
+    let a = c.args in
     let l = level_at a.level in
-    let h = c.before.before.excess in
-    let x = c.before.excess2 in
-    let y = c.excess3 in
+    let h = c.excess in
+    let x = c.excess-2 in
+    let y = c.excess-3 in
     withins_more l a.h.now (a.x.now ∷ a.y.now ∷ []) h.result _ h.ensures
     (withins_more l a.x.now (a.y.now ∷ []) x.result y.result x.ensures (withins-last l a.y.now y.result y.ensures))
 
-pub excess-spec : {M : Type 1} → statement M
-excess-spec = tie.close (tie.spec excess-requires excess-requires-2 excess-requires-3 returns)
+pub excess_spec : {M : Type 1} → statement M
+excess_spec =
+    tie.close
+    (tie.spec
+    excess-requires
+    excess-requires-2
+    excess-requires-3
+    returns)

@@ -23,53 +23,53 @@ some a h = sym (ne_eqb a 0 h)
 abbrev rows : (bits coordinates : Bool) (positions : Code) → Answer
 rows bits coordinates positions = first_of (material bits coordinates positions ++ spare_row positions)
 
-returns : tie.Need-returns
-returns c =
-    let a = c.before.args in
-    λ t. rows (some a.bits c.if1.true t) (eqb a.coordinates 0) (code_at a.positions)
+returns-then-bits-ne0 : tie.Need-returns-then-bits-ne0
+returns-then-bits-ne0 c =
+    let a = c.args in
+    λ t. rows (some a.bits c.if-bits-ne0.true t) (eqb a.coordinates 0) (code_at a.positions)
 
-returns-2 : tie.Need-returns-2
-returns-2 c =
-    let a = c.before.before.args in
-    λ t. rows (none a.bits c.before.if1.false t) (some a.coordinates c.if2.true t) (code_at a.positions)
+returns-then-coordinates-ne0 : tie.Need-returns-then-coordinates-ne0
+returns-then-coordinates-ne0 c =
+    let a = c.args in
+    λ t. rows (none a.bits c.if-bits-ne0.false t) (some a.coordinates c.if-coordinates-ne0.true t) (code_at a.positions)
 
 of-requires : tie.Need-of-requires
 of-requires c κs = search rules
 
-enum_told : tie.Need-enum-told
-enum_told c = search rules
+enum_told-1 : tie.Need-enum_told-1
+enum_told-1 c = search rules
 
-enum-told-2 : tie.Need-enum-told-2
-enum-told-2 c = search rules
+enum_told-in-Spare : tie.Need-enum_told-in-Spare
+enum_told-in-Spare c = search rules
 
-enum-told-3 : tie.Need-enum-told-3
-enum-told-3 c = search rules
+enum_told-in-Column : tie.Need-enum_told-in-Column
+enum_told-in-Column c = search rules
 
 -- past the first two rows, the case of the positions
-passed : (c : tie.After-of) {code : Code} → let a = c.before.before.before.args in
+passed : (c : tie.After-of) {code : Code} → let a = c.args in
     code ≡ code_at a.positions → rows true true code ≡ rows (eqb a.bits 0) (eqb a.coordinates 0) (code_at a.positions)
-passed c e = let a = c.before.before.before.args in
-    λ t. rows (none a.bits c.before.before.if1.false t) (none a.coordinates c.before.if2.false t) (e t)
+passed c e = let a = c.args in
+    λ t. rows (none a.bits c.if-bits-ne0.false t) (none a.coordinates c.if-coordinates-ne0.false t) (e t)
 
-returns-3 : tie.Need-returns-3
-returns-3 c = passed c.before.before (sym c.enum_told.given.1 ∙ c.before.before.of.ensures)
+returns-in-TooLarge : tie.Need-returns-in-TooLarge
+returns-in-TooLarge c = passed c.before (sym c.in-TooLarge.is ∙ c.of.ensures)
 
-returns-4 : tie.Need-returns-4
-returns-4 c = passed c.before.before (sym c.enum-told2.given.1 ∙ c.before.before.of.ensures)
+returns-in-Spare : tie.Need-returns-in-Spare
+returns-in-Spare c = passed c.before (sym c.in-Spare.is ∙ c.of.ensures)
 
-returns-5 : tie.Need-returns-5
-returns-5 c = passed c.before.before (sym c.enum-told3.given.1 ∙ c.before.before.of.ensures)
+returns-in-Column : tie.Need-returns-in-Column
+returns-in-Column c = passed c.before (sym c.in-Column.is ∙ c.of.ensures)
 
-pub material-spec : {M : Type 1} → statement M
-material-spec =
+pub material_spec : {M : Type 1} → statement M
+material_spec =
     tie.close
     (tie.spec
-    returns
-    returns-2
+    returns-then-bits-ne0
+    returns-then-coordinates-ne0
     of-requires
-    enum_told
-    enum-told-2
-    enum-told-3
-    returns-3
-    returns-4
-    returns-5)
+    enum_told-1
+    enum_told-in-Spare
+    enum_told-in-Column
+    returns-in-TooLarge
+    returns-in-Spare
+    returns-in-Column)

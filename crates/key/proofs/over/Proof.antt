@@ -15,55 +15,55 @@ use borrow.Author.Rules.{rules}
 use Rattle.key.proofs.over.Statement.{statement}
 use Rattle.key.proofs.over.Tie as tie
 
-abbrev invariant-loop : tie.invariant-loop
-invariant-loop s digits any₀ i₀ any i = (i ≤ length s) × (ltb any (2 ^ digits) ≡ all (λ b. ltb b (2 ^ digits)) (take i s))
+abbrev invariant-loop-i : tie.invariant-loop-i
+invariant-loop-i s digits any₀ i₀ any i = (i ≤ length s) × (ltb any (2 ^ digits) ≡ all (λ b. ltb b (2 ^ digits)) (take i s))
 
-abbrev decreases-loop : tie.decreases-loop
-decreases-loop s digits any₀ i₀ any i = length s - i
+abbrev decreases-loop-i : tie.decreases-loop-i
+decreases-loop-i s digits any₀ i₀ any i = length s - i
 
-loop-holds : tie.Need-loop-init invariant-loop decreases-loop
+loop-i-init : tie.Need-loop-i-init invariant-loop-i decreases-loop-i
 unfolding all
-loop-holds c = (omega arith, lt-ltb 0 (2 ^ c.args.digits) (pow_pos c.args.digits))
+loop-i-init c = (omega arith, lt-ltb 0 (2 ^ c.args.digits) (pow_pos c.args.digits))
 
-shared-slice-read-any : tie.Need-shared-slice-read-any invariant-loop decreases-loop
-shared-slice-read-any c = search rules
+bounds-s-i : tie.Need-bounds-s-i invariant-loop-i decreases-loop-i
+bounds-s-i c = search rules
 
-add-i : tie.Need-overflow-add-i invariant-loop decreases-loop
-add-i c = search rules
+overflow_add-i : tie.Need-overflow_add-i invariant-loop-i decreases-loop-i
+overflow_add-i c = search rules
 
-loop-less : tie.Need-loop-smaller invariant-loop decreases-loop
-loop-less c = search rules
+loop-i-smaller : tie.Need-loop-i-smaller invariant-loop-i decreases-loop-i
+loop-i-smaller c = search rules
 
-loop-again : tie.Need-loop-preserved invariant-loop decreases-loop
-loop-again c =
-    let l = c.before.before.loop in
-    let a = c.before.before.before.args in
+loop-i-preserved : tie.Need-loop-i-preserved invariant-loop-i decreases-loop-i
+loop-i-preserved c =
+    let l = c.loop-i in
+    let a = c.args in
     let s = a.s.now in
     (omega arith, or-below a.digits l.any (get_or s l.i 0) ∙ ap (λ b. b && ltb (get_or s l.i 0) (2 ^ a.digits)) l.invariant.1 ∙ sym (all_more (λ b. ltb b (2 ^ a.digits)) s l.i (omega arith)))
 
-cast-result : tie.Need-overflow-cast-result invariant-loop decreases-loop
-cast-result c = search rules
+overflow_cast-result : tie.Need-overflow_cast-result invariant-loop-i decreases-loop-i
+overflow_cast-result c = search rules
 
-shr-result : tie.Need-overflow-shr-result invariant-loop decreases-loop
-shr-result c = search rules
+overflow_shr-result : tie.Need-overflow_shr-result invariant-loop-i decreases-loop-i
+overflow_shr-result c = search rules
 
-returns : tie.Need-returns invariant-loop decreases-loop
+returns : tie.Need-returns invariant-loop-i decreases-loop-i
 unfolding below
 returns c =
-    let a = c.before.before.args in
-    high-none a.digits c.before.loop.any ∙ c.before.loop.invariant.1 ∙ ap (λ s. all (λ b. ltb b (2 ^ a.digits)) s) (take_all c.before.loop.i a.s.now (omega arith))
+    let a = c.args in
+    high-none a.digits c.loop-i.any ∙ c.loop-i.invariant.1 ∙ ap (λ s. all (λ b. ltb b (2 ^ a.digits)) s) (take_all c.loop-i.i a.s.now (omega arith))
 
-pub over-spec : {M : Type 1} → statement M
-over-spec =
+pub over_spec : {M : Type 1} → statement M
+over_spec =
     tie.close
     (tie.spec
-    invariant-loop
-    decreases-loop
-    loop-holds
-    shared-slice-read-any
-    add-i
-    loop-less
-    loop-again
-    cast-result
-    shr-result
+    invariant-loop-i
+    decreases-loop-i
+    loop-i-init
+    bounds-s-i
+    overflow_add-i
+    loop-i-smaller
+    loop-i-preserved
+    overflow_cast-result
+    overflow_shr-result
     returns)

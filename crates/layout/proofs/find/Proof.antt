@@ -11,87 +11,87 @@ use Rattle.layout.proofs.Rest.{Rest, rest_all, rest-fits, rest-found, rest-past,
 use Rattle.layout.proofs.find.Statement.{statement}
 use Rattle.layout.proofs.find.Tie as tie
 
-abbrev invariant-loop : tie.invariant-loop
-invariant-loop s tag at₀ at = (at ≤ length s) × ((l : Level) (rows : List Row) → Whole l s rows → Rest l s tag (part_of tag 0 rows) at)
+abbrev invariant-loop-at : tie.invariant-loop-at
+invariant-loop-at s tag at₀ at = (at ≤ length s) × ((l : Level) (rows : List Row) → Whole l s rows → Rest l s tag (part_of tag 0 rows) at)
 
-abbrev decreases-loop : tie.decreases-loop
-decreases-loop s tag at₀ at = length s - at
+abbrev decreases-loop-at : tie.decreases-loop-at
+decreases-loop-at s tag at₀ at = length s - at
 
-loop-holds : tie.Need-loop-init invariant-loop decreases-loop
-loop-holds c = (omega arith, λ l rows w. rest_all l c.before.args.s.now c.before.args.tag rows w)
+loop-at-init : tie.Need-loop-at-init invariant-loop-at decreases-loop-at
+loop-at-init c = (omega arith, λ l rows w. rest_all l c.args.s.now c.args.tag rows w)
 
-sub-if1 : tie.Need-overflow-sub-if1 invariant-loop decreases-loop
-sub-if1 c = search rules
+overflow_sub-s : tie.Need-overflow_sub-s invariant-loop-at decreases-loop-at
+overflow_sub-s c = search rules
 
-returns : tie.Need-returns invariant-loop decreases-loop
+returns-then-s-at-lt-HEAD : tie.Need-returns-then-s-at-lt-HEAD invariant-loop-at decreases-loop-at
+returns-then-s-at-lt-HEAD c =
+    let g = c.loop-at in
+    let a = c.args in
+    (λ l rows w. absurd (omega (arith, rest-fits l a.s.now a.tag (part_of a.tag 0 rows) g.at (g.invariant.1 l rows w) c.loop-at-test.true)), omega arith)
+
+bounds-s-at : tie.Need-bounds-s-at invariant-loop-at decreases-loop-at
+bounds-s-at c = search rules
+
+overflow_add-at : tie.Need-overflow_add-at invariant-loop-at decreases-loop-at
+overflow_add-at c = search rules
+
+word_at-len-requires : tie.Need-word_at-len-requires invariant-loop-at decreases-loop-at
+word_at-len-requires c κs = search rules
+
+overflow_add-start : tie.Need-overflow_add-start invariant-loop-at decreases-loop-at
+overflow_add-start c = search rules
+
+overflow_sub-s-in-loop-at : tie.Need-overflow_sub-s-in-loop-at invariant-loop-at decreases-loop-at
+overflow_sub-s-in-loop-at c = search rules
+
+returns-then-s-start : tie.Need-returns-then-s-start invariant-loop-at decreases-loop-at
+returns-then-s-start c =
+    let g = c.loop-at in
+    let a = c.args in
+    let e = c.word_at-len.ensures.0 in
+    (λ l rows w. absurd (omega (arith, e, rest-fits l a.s.now a.tag (part_of a.tag 0 rows) g.at (g.invariant.1 l rows w) c.loop-at-test.true)), omega arith)
+
+returns-then-found-tag : tie.Need-returns-then-found-tag invariant-loop-at decreases-loop-at
+returns-then-found-tag c =
+    let g = c.loop-at in
+    let a = c.args in
+    (λ l rows w. rw c.word_at-len.ensures.0 (rest-found l a.s.now a.tag (part_of a.tag 0 rows) g.at (g.invariant.1 l rows w) c.loop-at-test.true c.if-found-tag.true), omega arith)
+
+overflow_add-at-in-loop-at : tie.Need-overflow_add-at-in-loop-at invariant-loop-at decreases-loop-at
+overflow_add-at-in-loop-at c = search rules
+
+loop-at-smaller : tie.Need-loop-at-smaller invariant-loop-at decreases-loop-at
+loop-at-smaller c = search rules
+
+loop-at-preserved : tie.Need-loop-at-preserved invariant-loop-at decreases-loop-at
+loop-at-preserved c =
+    let g = c.loop-at in
+    let a = c.args in
+    (omega arith, λ l rows w. rw c.word_at-len.ensures.0 (rest-past l a.s.now a.tag (part_of a.tag 0 rows) g.at (g.invariant.1 l rows w) c.loop-at-test.true c.if-found-tag.false))
+
+returns : tie.Need-returns invariant-loop-at decreases-loop-at
 returns c =
-    let g = c.before.before.loop in
-    let a = c.before.before.before.before.args in
-    (λ l rows w. absurd (omega (arith, rest-fits l a.s.now a.tag (part_of a.tag 0 rows) g.at (g.invariant.1 l rows w) c.before.loop-test.true)), omega arith)
-
-shared-slice-read-found : tie.Need-shared-slice-read-found invariant-loop decreases-loop
-shared-slice-read-found c = search rules
-
-add-word-at : tie.Need-overflow-add-word-at invariant-loop decreases-loop
-add-word-at c = search rules
-
-word-at-requires : tie.Need-word-at-requires invariant-loop decreases-loop
-word-at-requires c κs = search rules
-
-add_start : tie.Need-overflow-add-start invariant-loop decreases-loop
-add_start c = search rules
-
-sub-if2 : tie.Need-overflow-sub-if2 invariant-loop decreases-loop
-sub-if2 c = search rules
-
-returns-2 : tie.Need-returns-2 invariant-loop decreases-loop
-returns-2 c =
-    let g = c.before.before.before.before.before.loop in
-    let a = c.before.before.before.before.before.before.before.args in
-    let e = c.before.word-at.ensures.0 in
-    (λ l rows w. absurd (omega (arith, e, rest-fits l a.s.now a.tag (part_of a.tag 0 rows) g.at (g.invariant.1 l rows w) c.before.before.before.before.loop-test.true)), omega arith)
-
-returns-3 : tie.Need-returns-3 invariant-loop decreases-loop
-returns-3 c =
-    let g = c.before.before.before.before.before.before.loop in
-    let a = c.before.before.before.before.before.before.before.before.args in
-    (λ l rows w. rw c.before.before.word-at.ensures.0 (rest-found l a.s.now a.tag (part_of a.tag 0 rows) g.at (g.invariant.1 l rows w) c.before.before.before.before.before.loop-test.true c.if3.true), omega arith)
-
-add_at : tie.Need-overflow-add-at invariant-loop decreases-loop
-add_at c = search rules
-
-loop-less : tie.Need-loop-smaller invariant-loop decreases-loop
-loop-less c = search rules
-
-loop-again : tie.Need-loop-preserved invariant-loop decreases-loop
-loop-again c =
-    let g = c.before.before.before.before.before.before.loop in
-    let a = c.before.before.before.before.before.before.before.before.args in
-    (omega arith, λ l rows w. rw c.before.before.word-at.ensures.0 (rest-past l a.s.now a.tag (part_of a.tag 0 rows) g.at (g.invariant.1 l rows w) c.before.before.before.before.before.loop-test.true c.if3.false))
-
-returns-4 : tie.Need-returns-4 invariant-loop decreases-loop
-returns-4 c =
-    let g = c.before.loop in
-    let a = c.before.before.before.args in
-    (λ l rows w. rest_end l a.s.now a.tag (part_of a.tag 0 rows) g.at (g.invariant.1 l rows w) c.loop-test.false, omega arith)
+    let g = c.loop-at in
+    let a = c.args in
+    (λ l rows w. rest_end l a.s.now a.tag (part_of a.tag 0 rows) g.at (g.invariant.1 l rows w) c.loop-at-test.false, omega arith)
 
 pub find_spec : {M : Type 1} → statement M
 find_spec =
     tie.close
     (tie.spec
-    invariant-loop
-    decreases-loop
-    loop-holds
-    sub-if1
-    returns
-    shared-slice-read-found
-    add-word-at
-    word-at-requires
-    add_start
-    sub-if2
-    returns-2
-    returns-3
-    add_at
-    loop-less
-    loop-again
-    returns-4)
+    invariant-loop-at
+    decreases-loop-at
+    loop-at-init
+    overflow_sub-s
+    returns-then-s-at-lt-HEAD
+    bounds-s-at
+    overflow_add-at
+    word_at-len-requires
+    overflow_add-start
+    overflow_sub-s-in-loop-at
+    returns-then-s-start
+    returns-then-found-tag
+    overflow_add-at-in-loop-at
+    loop-at-smaller
+    loop-at-preserved
+    returns)

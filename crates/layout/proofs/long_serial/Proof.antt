@@ -10,20 +10,24 @@ use Rattle.copying.proofs.Bytes.{from_lt}
 use Rattle.layout.proofs.long_serial.Statement.{statement}
 use Rattle.layout.proofs.long_serial.Tie as tie
 
+returns-then-c-ne4 : tie.Need-returns-then-c-ne4
+returns-then-c-ne4 c = ap (λ b. b && ltb (from_bytes c.args.c.now) 65536) (sym (ne_eqb _ _ c.if-c-ne4.true))
+
+from_bytes-requires : tie.Need-from_bytes-requires
+from_bytes-requires c κs = search rules
+
 returns : tie.Need-returns
-returns c = ap (λ b. b && ltb (from_bytes c.before.before.args.c.now) 65536) (sym (ne_eqb _ _ c.if1.true))
-
-from-bytes-requires : tie.Need-from-bytes-requires
-from-bytes-requires c κs = search rules
-
-returns-2 : tie.Need-returns-2
-returns-2 c =
-    let k = c.before.before in
-    let s = k.before.args.c.now in
+returns c =
+    let s = c.args.c.now in
     let four : length s ≡ 4 = omega arith in
-    let small = from_lt s (λ i. omega (arith, k.shared-slice-known.given i)) (omega arith) in
+    let small = from_lt s (λ i. omega (arith, c.shared_slice_known-1.given i)) (omega arith) in
     let all : c.from_bytes.result ≡ from_bytes s = omega (arith, c.from_bytes.ensures) in
     rw (all, eq-eqb _ _ four)
 
-pub long-serial-spec : {M : Type 1} → statement M
-long-serial-spec = tie.close (tie.spec returns from-bytes-requires returns-2)
+pub long_serial_spec : {M : Type 1} → statement M
+long_serial_spec =
+    tie.close
+    (tie.spec
+    returns-then-c-ne4
+    from_bytes-requires
+    returns)

@@ -13,8 +13,8 @@ use Rattle.layout.proofs.Bounds.{Bounds, bounds}
 use Rattle.layout.proofs.read_check.Statement.{statement}
 use Rattle.layout.proofs.read_check.Tie as tie
 
-bound : (c : tie.After-lengths) → Bounds c.lengths.result
-bound c = rw c.lengths.ensures (bounds c.before.before.args.key c.before.before.requires)
+bound : (c : tie.After-lengths-len) → Bounds c.lengths-len.result
+bound c = rw c.lengths-len.ensures (bounds c.args.key c.requires)
 
 -- the rows, of the lengths
 abbrev qRow : Lengths → Row
@@ -29,55 +29,54 @@ deltaRow n = record { tag = 0x13; len = 2 * n.one; kind = Coordinates }
 abbrev alphaRow : Lengths → Row
 alphaRow n = record { tag = 0x14; len = 2 * n.values; kind = Coordinates }
 
-lengths-requires : tie.Need-lengths-requires
-lengths-requires c κs = search rules
+lengths-len-requires : tie.Need-lengths-len-requires
+lengths-len-requires c κs = search rules
 
-mul-t10 : tie.Need-overflow-mul-t10
-mul-t10 c = omega (arith, (bound c.before).elements)
+overflow_mul-q : tie.Need-overflow_mul-q
+overflow_mul-q c = omega (arith, (bound c.before).elements)
 
-mul-t10-2 : tie.Need-overflow-mul-t10-2
-mul-t10-2 c = omega (arith, (bound c.before.before).masks)
+overflow_mul-masks : tie.Need-overflow_mul-masks
+overflow_mul-masks c = omega (arith, (bound c.before.before).masks)
 
-mul-t10-3 : tie.Need-overflow-mul-t10-3
-mul-t10-3 c = omega (arith, (bound c.before.before.before).one)
+overflow_mul-delta : tie.Need-overflow_mul-delta
+overflow_mul-delta c = omega (arith, (bound c.before.before.before).one)
 
-mul-t10-4 : tie.Need-overflow-mul-t10-4
-mul-t10-4 c = omega (arith, (bound c.before.before.before.before).values)
+overflow_mul-alpha : tie.Need-overflow_mul-alpha
+overflow_mul-alpha c = omega (arith, (bound c.before.before.before.before).values)
 
-read-row-requires : tie.Need-read-row-requires
-read-row-requires c κs = search rules
+read_row-requires : tie.Need-read_row-requires
+read_row-requires c κs = search rules
 
-read-row-requires-2 : tie.Need-read-row-requires-2
-read-row-requires-2 c κs = search rules
+read_row-step-requires : tie.Need-read_row-step-requires
+read_row-step-requires c κs = search rules
 
-read-row-requires-3 : tie.Need-read-row-requires-3
-read-row-requires-3 c κs = search rules
+read_row-requires-2 : tie.Need-read_row-requires-2
+read_row-requires-2 c κs = search rules
 
-read-row-requires-4 : tie.Need-read-row-requires-4
-read-row-requires-4 c κs = search rules
+read_row-requires-3 : tie.Need-read_row-requires-3
+read_row-requires-3 c κs = search rules
 
 returns : tie.Need-returns
 returns c =
-    let g = c.before.before.before.before.before.before.before.before in
-    let a = g.before.before.args in
-    let n = g.lengths.result in
-    let first = c.before.before.before.read-row.ensures in
-    let second = outcome_more (level_at FIRST) a.s.now a.at (qRow n ∷ []) (masksRow n ∷ []) first c.before.before.read-row2.ensures in
-    let third = outcome_more (level_at FIRST) a.s.now a.at (qRow n ∷ masksRow n ∷ []) (deltaRow n ∷ []) second c.before.read-row3.ensures in
-    outcome_more (level_at FIRST) a.s.now a.at (qRow n ∷ masksRow n ∷ deltaRow n ∷ []) (alphaRow n ∷ []) third c.read-row4.ensures
-    ∙ ap (λ (n : Lengths). outcome (level_at FIRST) a.s.now a.at (qRow n ∷ masksRow n ∷ deltaRow n ∷ alphaRow n ∷ [])) g.lengths.ensures
+    let a = c.args in
+    let n = c.lengths-len.result in
+    let first = c.read_row.ensures in
+    let second = outcome_more (level_at FIRST) a.s.now a.at (qRow n ∷ []) (masksRow n ∷ []) first c.read_row-step.ensures in
+    let third = outcome_more (level_at FIRST) a.s.now a.at (qRow n ∷ masksRow n ∷ []) (deltaRow n ∷ []) second c.read_row-2.ensures in
+    outcome_more (level_at FIRST) a.s.now a.at (qRow n ∷ masksRow n ∷ deltaRow n ∷ []) (alphaRow n ∷ []) third c.read_row-3.ensures
+    ∙ ap (λ (n : Lengths). outcome (level_at FIRST) a.s.now a.at (qRow n ∷ masksRow n ∷ deltaRow n ∷ alphaRow n ∷ [])) c.lengths-len.ensures
 
-pub read-check-spec : {M : Type 1} → statement M
-read-check-spec =
+pub read_check_spec : {M : Type 1} → statement M
+read_check_spec =
     tie.close
     (tie.spec
-    lengths-requires
-    mul-t10
-    mul-t10-2
-    mul-t10-3
-    mul-t10-4
-    read-row-requires
-    read-row-requires-2
-    read-row-requires-3
-    read-row-requires-4
+    lengths-len-requires
+    overflow_mul-q
+    overflow_mul-masks
+    overflow_mul-delta
+    overflow_mul-alpha
+    read_row-requires
+    read_row-step-requires
+    read_row-requires-2
+    read_row-requires-3
     returns)

@@ -2,11 +2,15 @@ use borrow.Author.Tests.{lt-ltb, le-ltb}
 use Rattle.layout.proofs.read_end.Statement.{statement}
 use Rattle.layout.proofs.read_end.Tie as tie
 
-returns : tie.Need-returns
-returns c = simp (lt-ltb _ _ c.if1.true)
+returns-then-at-s : tie.Need-returns-then-at-s
+returns-then-at-s c = simp (lt-ltb _ _ c.if-at-s.true)
 
-returns-2 : tie.Need-returns-2
-returns-2 c = simp (le-ltb _ _ c.if1.false)
+returns-else-at-s : tie.Need-returns-else-at-s
+returns-else-at-s c = simp (le-ltb _ _ c.if-at-s.false)
 
-pub read-end-spec : {M : Type 1} → statement M
-read-end-spec = tie.close (tie.spec returns returns-2)
+pub read_end_spec : {M : Type 1} → statement M
+read_end_spec =
+    tie.close
+    (tie.spec
+    returns-then-at-s
+    returns-else-at-s)

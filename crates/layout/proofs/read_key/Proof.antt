@@ -22,54 +22,51 @@ abbrev last : List ℕ → List (Bool × ℕ)
 last s = (leans (level_at FIRST) s, 15) ∷ []
 
 -- where no field was refused, the rows of H decide
-reached : (c : tie.After-known-told2) →
-    let s = c.before.before.before.before.before.args.s.now in
-    (first_of (key_tests (level_at FIRST) s) ≡ first_of (last s)) × (c.before.step2.given.0.0 ≡ key_end (level_at FIRST) s)
+reached : (c : tie.In-Next) →
+    let s = c.args.s.now in
+    (first_of (key_tests (level_at FIRST) s) ≡ first_of (last s)) × (c.in-Next.end ≡ key_end (level_at FIRST) s)
 reached c =
-    let g = c.before.before.before in
-    let s = g.before.before.args.s.now in
-    first_ends (fields s) (last s) (key_end (level_at FIRST) s) (sym g.read-key-fields.ensures ∙ c.before.step2.given.1)
+    let s = c.args.s.now in
+    first_ends (fields s) (last s) (key_end (level_at FIRST) s) (sym c.read_key_fields-step.ensures ∙ c.in-Next.is)
 
-read-key-fields-requires : tie.Need-read-key-fields-requires
-read-key-fields-requires c κs = search rules
+read_key_fields-step-requires : tie.Need-read_key_fields-step-requires
+read_key_fields-step-requires c κs = search rules
 
-enum-known-step : tie.Need-enum-known-step
-enum-known-step c = search rules
+enum_known-step : tie.Need-enum_known-step
+enum_known-step c = search rules
 
-enum-known-step-2 : tie.Need-enum-known-step-2
-enum-known-step-2 c = search rules
+enum_known-step-in-Next-1 : tie.Need-enum_known-step-in-Next-1
+enum_known-step-in-Next-1 c = search rules
 
-rows-lean-requires : tie.Need-rows-lean-requires
-rows-lean-requires c κs =
-    let g = c.before.before.before in
-    let s = g.before.before.args.s.now in
-    (step_next (first_of (fields s)) (key_end (level_at FIRST) s) (sym g.read-key-fields.ensures ∙ c.before.step2.given.1)).0
+rows_lean-requires : tie.Need-rows_lean-requires
+rows_lean-requires c κs =
+    let s = c.args.s.now in
+    (step_next (first_of (fields s)) (key_end (level_at FIRST) s) (sym c.read_key_fields-step.ensures ∙ c.in-Next.is)).0
 
-returns : tie.Need-returns
-returns c =
-    let g = c.before.before.before in
-    let s = g.before.before.args.s.now in
-    ap (λ a. stepped a (key_end (level_at FIRST) s)) (first_stops (fields s) (last s) (key_end (level_at FIRST) s) (sym g.read-key-fields.ensures ∙ c.before.step.given.1))
+returns-in-Refused : tie.Need-returns-in-Refused
+returns-in-Refused c =
+    let s = c.args.s.now in
+    ap (λ a. stepped a (key_end (level_at FIRST) s)) (first_stops (fields s) (last s) (key_end (level_at FIRST) s) (sym c.read_key_fields-step.ensures ∙ c.in-Refused.is))
 
-returns-2 : tie.Need-returns-2
-returns-2 c =
-    let s = c.before.before.before.before.before.before.before.args.s.now in
-    ap (λ a. stepped a (key_end (level_at FIRST) s)) (sym ((reached c.before.before).0 ∙ stop 15 [] (sym c.before.rows-lean.ensures ∙ c.if1.true)))
+returns-then-rows_lean : tie.Need-returns-then-rows_lean
+returns-then-rows_lean c =
+    let s = c.args.s.now in
+    ap (λ a. stepped a (key_end (level_at FIRST) s)) (sym ((reached c.before.before).0 ∙ stop 15 [] (sym c.rows_lean.ensures ∙ c.if-rows_lean.true)))
 
-returns-3 : tie.Need-returns-3
-returns-3 c =
-    let s = c.before.before.before.before.before.before.before.args.s.now in
+returns-else-rows_lean : tie.Need-returns-else-rows_lean
+returns-else-rows_lean c =
+    let s = c.args.s.now in
     let r = reached c.before.before in
-    ap step.Next r.1 ∙ ap (λ a. stepped a (key_end (level_at FIRST) s)) (sym (r.0 ∙ pass 15 [] (sym c.before.rows-lean.ensures ∙ c.if1.false)))
+    ap step.Next r.1 ∙ ap (λ a. stepped a (key_end (level_at FIRST) s)) (sym (r.0 ∙ pass 15 [] (sym c.rows_lean.ensures ∙ c.if-rows_lean.false)))
 
-pub read-key-spec : {M : Type 1} → statement M
-read-key-spec =
+pub read_key_spec : {M : Type 1} → statement M
+read_key_spec =
     tie.close
     (tie.spec
-    read-key-fields-requires
-    enum-known-step
-    enum-known-step-2
-    rows-lean-requires
-    returns
-    returns-2
-    returns-3)
+    read_key_fields-step-requires
+    enum_known-step
+    enum_known-step-in-Next-1
+    rows_lean-requires
+    returns-in-Refused
+    returns-then-rows_lean
+    returns-else-rows_lean)

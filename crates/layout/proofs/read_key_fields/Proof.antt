@@ -38,83 +38,78 @@ abbrev mayFollow : List ℕ → Lengths → List Row
 mayFollow s n = optional s (after 0 (firstOnes n)) (yRow n)
 
 -- field 01 was not refused, so its content is sizes
-is-sized : (c : tie.After-key-at) → Sized (level_at FIRST) c.key-at.result
+is-sized : (c : tie.After-key_at) → Sized (level_at FIRST) c.key_at.result
 is-sized c =
-    let t = c.before in
-    let s = t.before.before.before.before.args.s.now in
-    let h = step_next (first_of (tests (level_at FIRST) s 0 (sizes_row ∷ []))) (after 0 (sizes_row ∷ [])) (sym t.before.before.read-row.ensures ∙ t.enum-told2.given.1) in
-    rw c.key-at.ensures (first-sized (level_at FIRST) s [] (none (tests (level_at FIRST) s 0 (sizes_row ∷ [])) h.0))
+    let s = c.args.s.now in
+    let h = step_next (first_of (tests (level_at FIRST) s 0 (sizes_row ∷ []))) (after 0 (sizes_row ∷ [])) (sym c.read_row-sizes.ensures ∙ c.in_default.is) in
+    rw c.key_at.ensures (first-sized (level_at FIRST) s [] (none (tests (level_at FIRST) s 0 (sizes_row ∷ [])) h.0))
 
-bound : (c : tie.After-lengths) → Bounds c.lengths.result
-bound c = rw c.lengths.ensures (bounds c.before.key-at.result (is-sized c.before))
+bound : (c : tie.After-lengths-len) → Bounds c.lengths-len.result
+bound c = rw c.lengths-len.ensures (bounds c.key_at.result (is-sized c.before))
 
-read-row-requires : tie.Need-read-row-requires
-read-row-requires c κs = search rules
+read_row-sizes-requires : tie.Need-read_row-sizes-requires
+read_row-sizes-requires c κs = search rules
 
-enum_told : tie.Need-enum-told
-enum_told c = search rules
+enum_told-1 : tie.Need-enum_told-1
+enum_told-1 c = search rules
+
+returns-in-Refused : tie.Need-returns-in-Refused
+returns-in-Refused c =
+    let s = c.args.s.now in
+    let n = lengths (level_at FIRST) (key_of s) in
+    let others = hRow n ∷ xRow n ∷ mayFollow s n in
+    outcome_more (level_at FIRST) s 0 (sizes_row ∷ []) others c.read_row-sizes.ensures (c.in-Refused.is ∙ ap (λ r. further r (λ p. outcome (level_at FIRST) s p others)) (sym c.in-Refused.is))
+
+enum_told-in_default : tie.Need-enum_told-in_default
+enum_told-in_default c = search rules
+
+key_at-requires : tie.Need-key_at-requires
+key_at-requires c κs = search rules
+
+lengths-len-requires : tie.Need-lengths-len-requires
+lengths-len-requires c κs = is-sized c
+
+overflow_mul-h : tie.Need-overflow_mul-h
+overflow_mul-h c = omega (arith, (bound c.before).matrix)
+
+overflow_mul-x : tie.Need-overflow_mul-x
+overflow_mul-x c = omega (arith, (bound c.before.before).vector)
+
+overflow_mul-y : tie.Need-overflow_mul-y
+overflow_mul-y c = omega (arith, (bound c.before.before.before).target)
+
+read_row-requires : tie.Need-read_row-requires
+read_row-requires c κs = search rules
+
+read_row-step-requires : tie.Need-read_row-step-requires
+read_row-step-requires c κs = search rules
+
+read_optional-requires : tie.Need-read_optional-requires
+read_optional-requires c κs = search rules
 
 returns : tie.Need-returns
 returns c =
-    let g = c.before.before in
-    let s = g.before.before.args.s.now in
-    let n = lengths (level_at FIRST) (key_of s) in
-    let others = hRow n ∷ xRow n ∷ mayFollow s n in
-    outcome_more (level_at FIRST) s 0 (sizes_row ∷ []) others g.read-row.ensures (c.enum_told.given.1 ∙ ap (λ r. further r (λ p. outcome (level_at FIRST) s p others)) (sym c.enum_told.given.1))
+    let s = c.args.s.now in
+    let n = c.lengths-len.result in
+    let second = outcome_more (level_at FIRST) s 0 (sizes_row ∷ []) (hRow n ∷ []) c.read_row-sizes.ensures c.read_row.ensures in
+    let third = outcome_more (level_at FIRST) s 0 (sizes_row ∷ hRow n ∷ []) (xRow n ∷ []) second c.read_row-step.ensures in
+    outcome_then (level_at FIRST) s 0 (firstOnes n) (λ p. optional s p (yRow n)) third c.read_optional.ensures
+    ∙ ap (λ (n : Lengths). outcome (level_at FIRST) s 0 (firstOnes n ++ mayFollow s n)) (c.lengths-len.ensures ∙ ap (λ (key : Key). lengths (level_at FIRST) key) c.key_at.ensures)
 
-enum-told-2 : tie.Need-enum-told-2
-enum-told-2 c = search rules
-
-key-at-requires : tie.Need-key-at-requires
-key-at-requires c κs = search rules
-
-lengths-requires : tie.Need-lengths-requires
-lengths-requires c κs = is-sized c
-
-mul-t12 : tie.Need-overflow-mul-t12
-mul-t12 c = omega (arith, (bound c.before).matrix)
-
-mul-t12-2 : tie.Need-overflow-mul-t12-2
-mul-t12-2 c = omega (arith, (bound c.before.before).vector)
-
-mul-t12-3 : tie.Need-overflow-mul-t12-3
-mul-t12-3 c = omega (arith, (bound c.before.before.before).target)
-
-read-row-requires-2 : tie.Need-read-row-requires-2
-read-row-requires-2 c κs = search rules
-
-read-row-requires-3 : tie.Need-read-row-requires-3
-read-row-requires-3 c κs = search rules
-
-read-optional-requires : tie.Need-read-optional-requires
-read-optional-requires c κs = search rules
-
-returns-2 : tie.Need-returns-2
-returns-2 c =
-    let g = c.before.before.before.before.before.before in
-    let k = g.before in
-    let t = k.before in
-    let s = t.before.before.before.before.args.s.now in
-    let n = g.lengths.result in
-    let second = outcome_more (level_at FIRST) s 0 (sizes_row ∷ []) (hRow n ∷ []) t.before.before.read-row.ensures c.before.before.read-row2.ensures in
-    let third = outcome_more (level_at FIRST) s 0 (sizes_row ∷ hRow n ∷ []) (xRow n ∷ []) second c.before.read-row3.ensures in
-    outcome_then (level_at FIRST) s 0 (firstOnes n) (λ p. optional s p (yRow n)) third c.read-optional.ensures
-    ∙ ap (λ (n : Lengths). outcome (level_at FIRST) s 0 (firstOnes n ++ mayFollow s n)) (g.lengths.ensures ∙ ap (λ (key : Key). lengths (level_at FIRST) key) k.key-at.ensures)
-
-pub read-key-fields-spec : {M : Type 1} → statement M
-read-key-fields-spec =
+pub read_key_fields_spec : {M : Type 1} → statement M
+read_key_fields_spec =
     tie.close
     (tie.spec
-    read-row-requires
-    enum_told
-    returns
-    enum-told-2
-    key-at-requires
-    lengths-requires
-    mul-t12
-    mul-t12-2
-    mul-t12-3
-    read-row-requires-2
-    read-row-requires-3
-    read-optional-requires
-    returns-2)
+    read_row-sizes-requires
+    enum_told-1
+    returns-in-Refused
+    enum_told-in_default
+    key_at-requires
+    lengths-len-requires
+    overflow_mul-h
+    overflow_mul-x
+    overflow_mul-y
+    read_row-requires
+    read_row-step-requires
+    read_optional-requires
+    returns)

@@ -5,43 +5,41 @@ use Rattle.layout.proofs.Rows.{row-there, row_absent}
 use Rattle.layout.proofs.read_optional.Statement.{statement}
 use Rattle.layout.proofs.read_optional.Tie as tie
 
-enum-known-step : tie.Need-enum-known-step
-enum-known-step c = search rules
+enum_known-step : tie.Need-enum_known-step
+enum_known-step c = search rules
 
-enum-known-step-2 : tie.Need-enum-known-step-2
-enum-known-step-2 c = search rules
+enum_known-step-in-Next-1 : tie.Need-enum_known-step-in-Next-1
+enum_known-step-in-Next-1 c = search rules
 
-has-tag-requires : tie.Need-has-tag-requires
-has-tag-requires c κs = search rules
+has_tag-requires : tie.Need-has_tag-requires
+has_tag-requires c κs = search rules
 
-read-row-requires : tie.Need-read-row-requires
-read-row-requires c κs = search rules
+read_row-requires : tie.Need-read_row-requires
+read_row-requires c κs = search rules
 
-returns : tie.Need-returns
-returns c = rw c.before.step.given.1
+returns-in-Refused : tie.Need-returns-in-Refused
+returns-in-Refused c = rw c.in-Refused.is
 
-returns-2 : tie.Need-returns-2
-returns-2 c =
-    let g = c.before.before in
-    let a = g.before.before.before.before.before.args in
-    let at = g.before.before.step2.given.0.0 in
-    rw g.before.before.step2.given.1 (c.read-row.ensures ∙ row-there (level_at FIRST) a.s.now at a.row g.has-tag.ensures c.before.if1.true)
+returns-then-has_tag : tie.Need-returns-then-has_tag
+returns-then-has_tag c =
+    let a = c.args in
+    let at = c.in-Next.at in
+    rw c.in-Next.is (c.read_row.ensures ∙ row-there (level_at FIRST) a.s.now at a.row c.has_tag.ensures c.if-has_tag.true)
 
-returns-3 : tie.Need-returns-3
-returns-3 c =
-    let g = c.before in
-    let a = g.before.before.before.before.before.args in
-    let at = g.before.before.step2.given.0.0 in
-    rw g.before.before.step2.given.1 (row_absent (level_at FIRST) a.s.now at a.row g.has-tag.ensures c.if1.false)
+returns-else-has_tag : tie.Need-returns-else-has_tag
+returns-else-has_tag c =
+    let a = c.args in
+    let at = c.in-Next.at in
+    rw c.in-Next.is (row_absent (level_at FIRST) a.s.now at a.row c.has_tag.ensures c.if-has_tag.false)
 
-pub read-optional-spec : {M : Type 1} → statement M
-read-optional-spec =
+pub read_optional_spec : {M : Type 1} → statement M
+read_optional_spec =
     tie.close
     (tie.spec
-    enum-known-step
-    enum-known-step-2
-    has-tag-requires
-    read-row-requires
-    returns
-    returns-2
-    returns-3)
+    enum_known-step
+    enum_known-step-in-Next-1
+    has_tag-requires
+    read_row-requires
+    returns-in-Refused
+    returns-then-has_tag
+    returns-else-has_tag)

@@ -10,61 +10,59 @@ use Rattle.layout.proofs.read_row.Statement.{statement}
 use Rattle.layout.proofs.read_row.Tie as tie
 
 -- a row that is not refused lies within the bytes
-whole : (c : tie.After-check-row) → c.check-row.result ≡ Done →
-    let a = c.before.before.before.before.before.args in
-    Passed (level_at FIRST) a.s.now c.before.before.step2.given.0.0 a.row
+whole : (c : tie.After-check_row-answer) → c.check_row-answer.result ≡ Done →
+    let a = c.args in
+    Passed (level_at FIRST) a.s.now c.in-Next.at a.row
 whole c e =
-    let a = c.before.before.before.before.before.args in
-    let at = c.before.before.step2.given.0.0 in
-    passed (level_at FIRST) a.s.now at a.row (none (row_tests (level_at FIRST) a.s.now at a.row) (sym c.check-row.ensures ∙ e))
+    let a = c.args in
+    let at = c.in-Next.at in
+    passed (level_at FIRST) a.s.now at a.row (none (row_tests (level_at FIRST) a.s.now at a.row) (sym c.check_row-answer.ensures ∙ e))
 
-enum-known-step : tie.Need-enum-known-step
-enum-known-step c = search rules
+enum_known-step : tie.Need-enum_known-step
+enum_known-step c = search rules
 
-enum-known-step-2 : tie.Need-enum-known-step-2
-enum-known-step-2 c = search rules
+enum_known-step-in-Next-1 : tie.Need-enum_known-step-in-Next-1
+enum_known-step-in-Next-1 c = search rules
 
-check-row-requires : tie.Need-check-row-requires
-check-row-requires c κs = search rules
+check_row-answer-requires : tie.Need-check_row-answer-requires
+check_row-answer-requires c κs = search rules
 
-enum-known-answer : tie.Need-enum-known-answer
-enum-known-answer c = search rules
+enum_known-answer : tie.Need-enum_known-answer
+enum_known-answer c = search rules
 
-enum_told : tie.Need-enum-told
-enum_told c = search rules
+enum_told-1 : tie.Need-enum_told-1
+enum_told-1 c = search rules
 
-add-t10 : tie.Need-overflow-add-t10
-add-t10 c = omega (arith, (whole c.before.before c.enum_told.given.1).fits)
+overflow_add-result : tie.Need-overflow_add-result
+overflow_add-result c = omega (arith, (whole c.before c.in-Done.is).fits)
 
-add-t11 : tie.Need-overflow-add-t11
-add-t11 c = omega (arith, (whole c.before.before.before c.before.enum_told.given.1).fits)
+overflow_add-result-in-Done : tie.Need-overflow_add-result-in-Done
+overflow_add-result-in-Done c = omega (arith, (whole c.before.before c.in-Done.is).fits)
 
-returns : tie.Need-returns
-returns c = rw c.before.step.given.1
+returns-in-Refused : tie.Need-returns-in-Refused
+returns-in-Refused c = rw c.in-Refused.is
 
-returns-2 : tie.Need-returns-2
-returns-2 c =
-    let g = c.before.before.before in
-    let a = g.before.before.before.before.before.args in
-    rw g.before.before.step2.given.1 (row_stops (level_at FIRST) a.s.now g.before.before.step2.given.0.0 a.row (sym c.before.answer.given.1 ∙ g.check-row.ensures))
+returns-in-Refused-answer : tie.Need-returns-in-Refused-answer
+returns-in-Refused-answer c =
+    let a = c.args in
+    rw c.in-Next.is (row_stops (level_at FIRST) a.s.now c.in-Next.at a.row (sym c.in-Refused-answer.is ∙ c.check_row-answer.ensures))
 
-returns-3 : tie.Need-returns-3
-returns-3 c =
-    let g = c.before.before.before in
-    let a = g.before.before.before.before.before.args in
-    rw g.before.before.step2.given.1 (row_ends (level_at FIRST) a.s.now g.before.before.step2.given.0.0 a.row (sym g.check-row.ensures ∙ c.before.enum_told.given.1))
+returns-in-Done : tie.Need-returns-in-Done
+returns-in-Done c =
+    let a = c.args in
+    rw c.in-Next.is (row_ends (level_at FIRST) a.s.now c.in-Next.at a.row (sym c.check_row-answer.ensures ∙ c.in-Done.is))
 
-pub read-row-spec : {M : Type 1} → statement M
-read-row-spec =
+pub read_row_spec : {M : Type 1} → statement M
+read_row_spec =
     tie.close
     (tie.spec
-    enum-known-step
-    enum-known-step-2
-    check-row-requires
-    enum-known-answer
-    enum_told
-    add-t10
-    add-t11
-    returns
-    returns-2
-    returns-3)
+    enum_known-step
+    enum_known-step-in-Next-1
+    check_row-answer-requires
+    enum_known-answer
+    enum_told-1
+    overflow_add-result
+    overflow_add-result-in-Done
+    returns-in-Refused
+    returns-in-Refused-answer
+    returns-in-Done)

@@ -13,25 +13,29 @@ use Rattle.layout.proofs.target_values.Tie as tie
 abbrev told : (above none : Bool) → Answer
 told above none = first_of ((above, 4) ∷ (none, 14) ∷ [])
 
-words-within-requires : tie.Need-words-within-requires
-words-within-requires c κs = search rules
+words_within-requires : tie.Need-words_within-requires
+words_within-requires c κs = search rules
 
-returns : tie.Need-returns
-returns c = ap (λ b. told b (zeros (words c.before.before.before.args.c.now))) (sym c.if1.true ∙ ap not c.before.words-within.ensures)
+returns-then-not-words_within : tie.Need-returns-then-not-words_within
+returns-then-not-words_within c = ap (λ b. told (not b) (zeros (words c.args.c.now))) (sym c.if-not-words_within.true ∙ c.words_within.ensures)
 
-words-zero-requires : tie.Need-words-zero-requires
-words-zero-requires c κs = search rules
+words_zero-requires : tie.Need-words_zero-requires
+words_zero-requires c κs = search rules
 
-returns-2 : tie.Need-returns-2
-returns-2 c =
-    let g = c.before.before in
-    ap₂ told (sym g.if1.false ∙ ap not g.before.words-within.ensures) (sym c.if2.true ∙ c.before.words-zero.ensures)
+returns-then-words_zero : tie.Need-returns-then-words_zero
+returns-then-words_zero c =
+    ap₂ (λ (b n : Bool). told (not b) n) (sym c.if-not-words_within.false ∙ c.words_within.ensures) (sym c.if-words_zero.true ∙ c.words_zero.ensures)
 
-returns-3 : tie.Need-returns-3
-returns-3 c =
-    let g = c.before.before in
-    ap₂ told (sym g.if1.false ∙ ap not g.before.words-within.ensures) (sym c.if2.false ∙ c.before.words-zero.ensures)
+returns-else-words_zero : tie.Need-returns-else-words_zero
+returns-else-words_zero c =
+    ap₂ (λ (b n : Bool). told (not b) n) (sym c.if-not-words_within.false ∙ c.words_within.ensures) (sym c.if-words_zero.false ∙ c.words_zero.ensures)
 
-pub target-values-spec : {M : Type 1} → statement M
-target-values-spec =
-    tie.close (tie.spec words-within-requires returns words-zero-requires returns-2 returns-3)
+pub target_values_spec : {M : Type 1} → statement M
+target_values_spec =
+    tie.close
+    (tie.spec
+    words_within-requires
+    returns-then-not-words_within
+    words_zero-requires
+    returns-then-words_zero
+    returns-else-words_zero)

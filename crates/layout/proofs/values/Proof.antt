@@ -8,99 +8,99 @@ use Rattle.key.specs.Key.{sizes}
 use Rattle.layout.proofs.values.Statement.{statement}
 use Rattle.layout.proofs.values.Tie as tie
 
-enum_told : tie.Need-enum-told
-enum_told c = search rules
+enum_told-1 : tie.Need-enum_told-1
+enum_told-1 c = search rules
 
-key-at-requires : tie.Need-key-at-requires
-key-at-requires c κs = search rules
+key_at-requires : tie.Need-key_at-requires
+key_at-requires c κs = search rules
 
 sizes-requires : tie.Need-sizes-requires
 sizes-requires c κs = search rules
 
-enum-told-2 : tie.Need-enum-told-2
-enum-told-2 c = search rules
+enum_told-in-Elements : tie.Need-enum_told-in-Elements
+enum_told-in-Elements c = search rules
 
-words-within-requires : tie.Need-words-within-requires
-words-within-requires c κs = search rules
+words_within-requires : tie.Need-words_within-requires
+words_within-requires c κs = search rules
 
-enum-told-3 : tie.Need-enum-told-3
-enum-told-3 c = search rules
+enum_told-in-Target : tie.Need-enum_told-in-Target
+enum_told-in-Target c = search rules
 
-target-values-requires : tie.Need-target-values-requires
-target-values-requires c κs = search rules
+target_values-requires : tie.Need-target_values-requires
+target_values-requires c κs = search rules
 
-enum-told-4 : tie.Need-enum-told-4
-enum-told-4 c = search rules
+enum_told-in-Serial : tie.Need-enum_told-in-Serial
+enum_told-in-Serial c = search rules
 
-long-serial-requires : tie.Need-long-serial-requires
-long-serial-requires c κs = search rules
+long_serial-requires : tie.Need-long_serial-requires
+long_serial-requires c κs = search rules
 
-enum-told-5 : tie.Need-enum-told-5
-enum-told-5 c = search rules
+enum_told-in-Bits : tie.Need-enum_told-in-Bits
+enum_told-in-Bits c = search rules
 
 over-requires : tie.Need-over-requires
 over-requires c κs = search rules
 
-enum-told-6 : tie.Need-enum-told-6
-enum-told-6 c = search rules
+enum_told-in-Coordinates : tie.Need-enum_told-in-Coordinates
+enum_told-in-Coordinates c = search rules
 
-words-within-requires-2 : tie.Need-words-within-requires-2
-words-within-requires-2 c κs = search rules
+words_within-requires-in-Coordinates : tie.Need-words_within-requires-in-Coordinates
+words_within-requires-in-Coordinates c κs = search rules
 
-returns : tie.Need-returns
-returns c = rw c.before.before.enum_told.given.1 (c.sizes.ensures ∙ ap (λ (k : Key). first_of (sizes (level_at FIRST) k)) c.before.key-at.ensures)
+returns-in-Sizes : tie.Need-returns-in-Sizes
+returns-in-Sizes c = rw c.in-Sizes.is (c.sizes.ensures ∙ ap (λ (k : Key). first_of (sizes (level_at FIRST) k)) c.key_at.ensures)
 
-returns-2 : tie.Need-returns-2
-returns-2 c = rw (c.before.before.enum-told2.given.1, ← c.before.words-within.ensures, c.if1.true)
+returns-then-words_within : tie.Need-returns-then-words_within
+returns-then-words_within c = rw (c.in-Elements.is, ← c.words_within.ensures, c.if-words_within.true)
 
-returns-3 : tie.Need-returns-3
-returns-3 c = rw (c.before.before.enum-told2.given.1, ← c.before.words-within.ensures, c.if1.false)
+returns-else-words_within : tie.Need-returns-else-words_within
+returns-else-words_within c = rw (c.in-Elements.is, ← c.words_within.ensures, c.if-words_within.false)
 
-returns-4 : tie.Need-returns-4
-returns-4 c = rw c.before.enum-told3.given.1 c.target-values.ensures
+returns-in-Target : tie.Need-returns-in-Target
+returns-in-Target c = rw c.in-Target.is c.target_values.ensures
 
-returns-5 : tie.Need-returns-5
-returns-5 c = rw (c.before.before.enum-told4.given.1, ← c.before.long-serial.ensures, c.if2.true)
+returns-then-long_serial : tie.Need-returns-then-long_serial
+returns-then-long_serial c = rw (c.in-Serial.is, ← c.long_serial.ensures, c.if-long_serial.true)
 
-returns-6 : tie.Need-returns-6
-returns-6 c = rw (c.before.before.enum-told4.given.1, ← c.before.long-serial.ensures, c.if2.false)
+returns-else-long_serial : tie.Need-returns-else-long_serial
+returns-else-long_serial c = rw (c.in-Serial.is, ← c.long_serial.ensures, c.if-long_serial.false)
 
-returns-7 : tie.Need-returns-7
-returns-7 c = rw (c.before.before.enum-told5.given.1, fine c.before.over.ensures c.if3.true)
+returns-then-over-eq0 : tie.Need-returns-then-over-eq0
+returns-then-over-eq0 c = rw (c.in-Bits.is, fine c.over.ensures c.if-over-eq0.true)
 
-returns-8 : tie.Need-returns-8
-returns-8 c = rw (c.before.before.enum-told5.given.1, above c.before.over.ensures c.if3.false)
+returns-else-over-eq0 : tie.Need-returns-else-over-eq0
+returns-else-over-eq0 c = rw (c.in-Bits.is, above c.over.ensures c.if-over-eq0.false)
 
-returns-9 : tie.Need-returns-9
-returns-9 c = rw (c.before.before.enum-told6.given.1, ← c.before.words-within2.ensures, c.if4.true)
+returns-then-words_within-2 : tie.Need-returns-then-words_within-2
+returns-then-words_within-2 c = rw (c.in-Coordinates.is, ← c.words_within-in-Coordinates.ensures, c.if-words_within-2.true)
 
-returns-10 : tie.Need-returns-10
-returns-10 c = rw (c.before.before.enum-told6.given.1, ← c.before.words-within2.ensures, c.if4.false)
+returns-else-words_within-2 : tie.Need-returns-else-words_within-2
+returns-else-words_within-2 c = rw (c.in-Coordinates.is, ← c.words_within-in-Coordinates.ensures, c.if-words_within-2.false)
 
-pub values-spec : {M : Type 1} → statement M
-values-spec =
+pub values_spec : {M : Type 1} → statement M
+values_spec =
     tie.close
     (tie.spec
-    enum_told
-    key-at-requires
+    enum_told-1
+    key_at-requires
     sizes-requires
-    enum-told-2
-    words-within-requires
-    enum-told-3
-    target-values-requires
-    enum-told-4
-    long-serial-requires
-    enum-told-5
+    enum_told-in-Elements
+    words_within-requires
+    enum_told-in-Target
+    target_values-requires
+    enum_told-in-Serial
+    long_serial-requires
+    enum_told-in-Bits
     over-requires
-    enum-told-6
-    words-within-requires-2
-    returns
-    returns-2
-    returns-3
-    returns-4
-    returns-5
-    returns-6
-    returns-7
-    returns-8
-    returns-9
-    returns-10)
+    enum_told-in-Coordinates
+    words_within-requires-in-Coordinates
+    returns-in-Sizes
+    returns-then-words_within
+    returns-else-words_within
+    returns-in-Target
+    returns-then-long_serial
+    returns-else-long_serial
+    returns-then-over-eq0
+    returns-else-over-eq0
+    returns-then-words_within-2
+    returns-else-words_within-2)

@@ -11,70 +11,70 @@ use Rattle.layout.proofs.Words.{words_stop, words-go, words-end}
 use Rattle.layout.proofs.words_within.Statement.{statement}
 use Rattle.layout.proofs.words_within.Tie as tie
 
-abbrev invariant-loop : tie.invariant-loop
-invariant-loop c limit i₀ i = (i ≤ length c) × (within (level_at FIRST) (words (drop i c)) ≡ within (level_at FIRST) (words c))
+abbrev invariant-loop-i : tie.invariant-loop-i
+invariant-loop-i c limit i₀ i = (i ≤ length c) × (within (level_at FIRST) (words (drop i c)) ≡ within (level_at FIRST) (words c))
 
-abbrev decreases-loop : tie.decreases-loop
-decreases-loop c limit i₀ i = length c - i
+abbrev decreases-loop-i : tie.decreases-loop-i
+decreases-loop-i c limit i₀ i = length c - i
 
-limit : (c : tie.After-of invariant-loop decreases-loop) → c.of.result.limit ≡ (level_at FIRST).limit
-limit c = ap (λ (l : Level). l.limit) c.of.ensures
+limit : (c : tie.After-of-limit invariant-loop-i decreases-loop-i) → c.of-limit.result.limit ≡ (level_at FIRST).limit
+limit c = ap (λ (l : Level). l.limit) c.of-limit.ensures
 
-of-requires : tie.Need-of-requires invariant-loop decreases-loop
-of-requires c κs = search rules
+of-limit-requires : tie.Need-of-limit-requires invariant-loop-i decreases-loop-i
+of-limit-requires c κs = search rules
 
-cast-limit : tie.Need-overflow-cast-limit invariant-loop decreases-loop
-cast-limit c = search rules
+overflow_cast-limit : tie.Need-overflow_cast-limit invariant-loop-i decreases-loop-i
+overflow_cast-limit c = search rules
 
-loop-holds : tie.Need-loop-init invariant-loop decreases-loop
-loop-holds c = (omega arith, refl)
+loop-i-init : tie.Need-loop-i-init invariant-loop-i decreases-loop-i
+loop-i-init c = (omega arith, refl)
 
-sub-if1 : tie.Need-overflow-sub-if1 invariant-loop decreases-loop
-sub-if1 c = search rules
+overflow_sub-c : tie.Need-overflow_sub-c invariant-loop-i decreases-loop-i
+overflow_sub-c c = search rules
 
-returns : tie.Need-returns invariant-loop decreases-loop
-returns c =
-    let l = c.before.before.loop in
+returns-then-c-i-lt2 : tie.Need-returns-then-c-i-lt2 invariant-loop-i decreases-loop-i
+returns-then-c-i-lt2 c =
+    let l = c.loop-i in
     words-end (level_at FIRST) _ l.i (omega arith) ∙ l.invariant.1
 
-word-at-requires : tie.Need-word-at-requires invariant-loop decreases-loop
-word-at-requires c κs = omega arith
+word_at-requires : tie.Need-word_at-requires invariant-loop-i decreases-loop-i
+word_at-requires c κs = omega arith
 
-returns-2 : tie.Need-returns-2 invariant-loop decreases-loop
-returns-2 c =
-    let l = c.before.before.before.before.loop in
+returns-then-limit-word_at : tie.Need-returns-then-limit-word_at invariant-loop-i decreases-loop-i
+returns-then-limit-word_at c =
+    let l = c.loop-i in
     words_stop (level_at FIRST) _ l.i (omega arith) (omega (arith, limit c.before.before.before.before.before.before)) ∙ l.invariant.1
 
-add-i : tie.Need-overflow-add-i invariant-loop decreases-loop
-add-i c = search rules
+overflow_add-i : tie.Need-overflow_add-i invariant-loop-i decreases-loop-i
+overflow_add-i c = search rules
 
-loop-less : tie.Need-loop-smaller invariant-loop decreases-loop
-loop-less c = search rules
+loop-i-smaller : tie.Need-loop-i-smaller invariant-loop-i decreases-loop-i
+loop-i-smaller c = search rules
 
-loop-again : tie.Need-loop-preserved invariant-loop decreases-loop
-loop-again c =
-    let l = c.before.before.before.before.loop in
+loop-i-preserved : tie.Need-loop-i-preserved invariant-loop-i decreases-loop-i
+loop-i-preserved c =
+    let l = c.loop-i in
     (omega arith, words-go (level_at FIRST) _ l.i (omega arith) (omega (arith, limit c.before.before.before.before.before.before)) ∙ l.invariant.1)
 
-returns-3 : tie.Need-returns-3 invariant-loop decreases-loop
-returns-3 c =
-    let l = c.before.loop in
+returns : tie.Need-returns invariant-loop-i decreases-loop-i
+returns c =
+    let l = c.loop-i in
     words-end (level_at FIRST) _ l.i (omega arith) ∙ l.invariant.1
 
-pub words-within-spec : {M : Type 1} → statement M
-words-within-spec =
+pub words_within_spec : {M : Type 1} → statement M
+words_within_spec =
     tie.close
     (tie.spec
-    invariant-loop
-    decreases-loop
-    of-requires
-    cast-limit
-    loop-holds
-    sub-if1
-    returns
-    word-at-requires
-    returns-2
-    add-i
-    loop-less
-    loop-again
-    returns-3)
+    invariant-loop-i
+    decreases-loop-i
+    of-limit-requires
+    overflow_cast-limit
+    loop-i-init
+    overflow_sub-c
+    returns-then-c-i-lt2
+    word_at-requires
+    returns-then-limit-word_at
+    overflow_add-i
+    loop-i-smaller
+    loop-i-preserved
+    returns)

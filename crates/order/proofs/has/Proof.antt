@@ -4,18 +4,24 @@ use Rattle.order.specs.Seen.{has}
 use Rattle.order.proofs.has.Statement.{statement}
 use Rattle.order.proofs.has.Tie as tie
 
-mul-result : tie.Need-overflow-mul-result
-mul-result c = search rules
+offset_bounds-seen-j : tie.Need-offset_bounds-seen-j
+offset_bounds-seen-j c = search rules
 
-shared-slice-read-result : tie.Need-shared-slice-read-result
-shared-slice-read-result c = search rules
+bounds-seen-j : tie.Need-bounds-seen-j
+bounds-seen-j c = search rules
 
-shr-result : tie.Need-overflow-shr-result
-shr-result c = search rules
+overflow_shr-result : tie.Need-overflow_shr-result
+overflow_shr-result c = search rules
 
 returns : tie.Need-returns
 unfolding has
 returns c = refl
 
-pub has-spec : {M : Type 1} → statement M
-has-spec = tie.close (tie.spec mul-result shared-slice-read-result shr-result returns)
+pub has_spec : {M : Type 1} → statement M
+has_spec =
+    tie.close
+    (tie.spec
+    offset_bounds-seen-j
+    bounds-seen-j
+    overflow_shr-result
+    returns)

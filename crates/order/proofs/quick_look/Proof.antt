@@ -12,43 +12,41 @@ use Rattle.order.proofs.quick_look.Tie as tie
 refused-requires : tie.Need-refused-requires
 refused-requires c κs = search rules
 
-enum_told : tie.Need-enum-told
-enum_told c = search rules
+enum_told-1 : tie.Need-enum_told-1
+enum_told-1 c = search rules
 
-first-offender-requires : tie.Need-first-offender-requires
-first-offender-requires c κs =
-    let a = c.before.before.before.before.args in
-    let z = fine (level_at FIRST) a.n a.positions.now (sym c.before.before.refused.ensures ∙ c.enum_told.given.1) in
+first_offender-index-requires : tie.Need-first_offender-index-requires
+first_offender-index-requires c κs =
+    let a = c.args in
+    let z = fine (level_at FIRST) a.n a.positions.now (sym c.refused.ensures ∙ c.in-Done.is) in
     (z.positions-length, omega (arith, z.most, (bounded FIRST).most))
 
-enum-known-refusal : tie.Need-enum-known-refusal
-enum-known-refusal c = search rules
+enum_known-refusal : tie.Need-enum_known-refusal
+enum_known-refusal c = search rules
 
-returns : tie.Need-returns
-returns c =
-    let d = c.before.before in
-    let a = d.before.before.before.before.args in
-    promised FIRST a.n a.positions.now (outcome-found FIRST a.n a.positions.now d.before.before.refused.ensures {b = true} d.enum_told.given.1 c.before.first-offender.ensures (lt-ltb _ a.n c.if1.true))
+returns-then-index-n : tie.Need-returns-then-index-n
+returns-then-index-n c =
+    let a = c.args in
+    promised FIRST a.n a.positions.now (outcome-found FIRST a.n a.positions.now c.refused.ensures {b = true} c.in-Done.is c.first_offender-index.ensures (lt-ltb _ a.n c.if-index-n.true))
 
-returns-2 : tie.Need-returns-2
-returns-2 c =
-    let d = c.before.before in
-    let a = d.before.before.before.before.args in
-    promised FIRST a.n a.positions.now (outcome-found FIRST a.n a.positions.now d.before.before.refused.ensures {b = false} d.enum_told.given.1 c.before.first-offender.ensures (le-ltb _ a.n c.if1.false))
+returns-else-index-n : tie.Need-returns-else-index-n
+returns-else-index-n c =
+    let a = c.args in
+    promised FIRST a.n a.positions.now (outcome-found FIRST a.n a.positions.now c.refused.ensures {b = false} c.in-Done.is c.first_offender-index.ensures (le-ltb _ a.n c.if-index-n.false))
 
-returns-3 : tie.Need-returns-3
-returns-3 c =
-    let a = c.before.before.before.before.before.args in
-    promised FIRST a.n a.positions.now (outcome-refused FIRST a.n a.positions.now c.before.before.before.refused.ensures c.before.refusal.given.1)
+returns-in-Refused : tie.Need-returns-in-Refused
+returns-in-Refused c =
+    let a = c.args in
+    promised FIRST a.n a.positions.now (outcome-refused FIRST a.n a.positions.now c.refused.ensures c.in-Refused.is)
 
-pub quick-look-spec : {M : Type 1} → statement M
-quick-look-spec =
+pub quick_look_spec : {M : Type 1} → statement M
+quick_look_spec =
     tie.close
     (tie.spec
     refused-requires
-    enum_told
-    first-offender-requires
-    enum-known-refusal
-    returns
-    returns-2
-    returns-3)
+    enum_told-1
+    first_offender-index-requires
+    enum_known-refusal
+    returns-then-index-n
+    returns-else-index-n
+    returns-in-Refused)

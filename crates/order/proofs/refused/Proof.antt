@@ -15,32 +15,39 @@ use Rattle.order.proofs.refused.Statement.{statement}
 use Rattle.order.proofs.refused.Tie as tie
 
 -- past n the length decides
-passed : (c : tie.After-enum-told2) {b : Bool} → let a = c.before.before.before.before.args in eqb (length a.positions.now) a.n ≡ b → first_of ((not (b && true), 3) ∷ []) ≡ first_of (look_rows (level_at a.level) a.n a.positions.now)
+passed : (c : tie.In_default) {b : Bool} → let a = c.args in eqb (length a.positions.now) a.n ≡ b → first_of ((not (b && true), 3) ∷ []) ≡ first_of (look_rows (level_at a.level) a.n a.positions.now)
 passed c e =
-    let a = c.before.before.before.before.args in
+    let a = c.args in
     ap (λ b. first_of ((not (b && true), 3) ∷ [])) (sym e)
-    ∙ sym (after-done (size_n (level_at a.level) a.n) ((not (long ((a.positions.now, a.n) ∷ [])), 3) ∷ []) (sym c.before.before.size-n.ensures ∙ c.enum-told2.given.1))
+    ∙ sym (after-done (size_n (level_at a.level) a.n) ((not (long ((a.positions.now, a.n) ∷ [])), 3) ∷ []) (sym c.size_n-size.ensures ∙ c.in_default.is))
 
-size-n-requires : tie.Need-size-n-requires
-size-n-requires c κs = search rules
+size_n-size-requires : tie.Need-size_n-size-requires
+size_n-size-requires c κs = search rules
 
-enum_told : tie.Need-enum-told
-enum_told c = search rules
+enum_told-1 : tie.Need-enum_told-1
+enum_told-1 c = search rules
 
-returns : tie.Need-returns
-returns c =
-    let a = c.before.before.before.before.args in
-    after-refused (size_n (level_at a.level) a.n) ((not (long ((a.positions.now, a.n) ∷ [])), 3) ∷ []) c.before.before.size-n.ensures c.enum_told.given.1
+returns-in-Refused : tie.Need-returns-in-Refused
+returns-in-Refused c =
+    let a = c.args in
+    after-refused (size_n (level_at a.level) a.n) ((not (long ((a.positions.now, a.n) ∷ [])), 3) ∷ []) c.size_n-size.ensures c.in-Refused.is
 
-enum-told-2 : tie.Need-enum-told-2
-enum-told-2 c = search rules
+enum_told-in_default : tie.Need-enum_told-in_default
+enum_told-in_default c = search rules
 
-returns-2 : tie.Need-returns-2
-returns-2 c = passed c.before {b = false} (ne_eqb _ _ c.if1.true)
+returns-then-positions-n : tie.Need-returns-then-positions-n
+returns-then-positions-n c = passed c.before {b = false} (ne_eqb _ _ c.if-positions-n.true)
 
-returns-3 : tie.Need-returns-3
-returns-3 c = passed c.before {b = true} (eq-eqb _ _ c.if1.false)
+returns-else-positions-n : tie.Need-returns-else-positions-n
+returns-else-positions-n c = passed c.before {b = true} (eq-eqb _ _ c.if-positions-n.false)
 
-pub refused-spec : {M : Type 1} → statement M
-refused-spec =
-    tie.close (tie.spec size-n-requires enum_told returns enum-told-2 returns-2 returns-3)
+pub refused_spec : {M : Type 1} → statement M
+refused_spec =
+    tie.close
+    (tie.spec
+    size_n-size-requires
+    enum_told-1
+    returns-in-Refused
+    enum_told-in_default
+    returns-then-positions-n
+    returns-else-positions-n)

@@ -26,78 +26,72 @@ all : (s : List ℕ) → first_of (fields s ++ later s) ≡ first_of (check_file
 all s = ap first_of (sym (append_assoc (fields s) (check_tests (level_at FIRST) s) (end_tests s (check_end (level_at FIRST) s))))
 
 -- where the package was not refused: its tests are over, and the check's begin at its end
-reached : (c : tie.After-read-check) →
-    let s = c.before.before.before.before.before.before.before.args.bytes.now in
-    (first_of (check_file_tests (level_at FIRST) s) ≡ first_of (later s)) × (c.read-check.result ≡ stepped (first_of (check_tests (level_at FIRST) s)) (check_end (level_at FIRST) s))
+reached : (c : tie.After-read_check-check) →
+    let s = c.args.bytes.now in
+    (first_of (check_file_tests (level_at FIRST) s) ≡ first_of (later s)) × (c.read_check-check.result ≡ stepped (first_of (check_tests (level_at FIRST) s)) (check_end (level_at FIRST) s))
 reached c =
-    let k = c.before in
-    let g = k.before.before.before.before in
-    let s = g.before.before.args.bytes.now in
-    let h = first_ends (fields s) (later s) (group_end (level_at FIRST) s) (sym g.read-fields.ensures ∙ k.before.before.package2.given.1) in
-    (sym (all s) ∙ h.0, c.read-check.ensures ∙ ap₂ (λ (key : Key) (at : ℕ). outcome (level_at FIRST) s at (check_rows (level_at FIRST) key s at)) k.key-at.ensures h.1)
+    let s = c.args.bytes.now in
+    let h = first_ends (fields s) (later s) (group_end (level_at FIRST) s) (sym c.read_fields-package.ensures ∙ c.in-Next.is) in
+    (sym (all s) ∙ h.0, c.read_check-check.ensures ∙ ap₂ (λ (key : Key) (at : ℕ). outcome (level_at FIRST) s at (check_rows (level_at FIRST) key s at)) c.key_at.ensures h.1)
 
-read-fields-requires : tie.Need-read-fields-requires
-read-fields-requires c κs = search rules
+read_fields-package-requires : tie.Need-read_fields-package-requires
+read_fields-package-requires c κs = search rules
 
-enum-known-package : tie.Need-enum-known-package
-enum-known-package c = search rules
+enum_known-package : tie.Need-enum_known-package
+enum_known-package c = search rules
 
-enum-known-package-2 : tie.Need-enum-known-package-2
-enum-known-package-2 c = search rules
+enum_known-package-in-Next-1 : tie.Need-enum_known-package-in-Next-1
+enum_known-package-in-Next-1 c = search rules
 
-key-at-requires : tie.Need-key-at-requires
-key-at-requires c κs = search rules
+key_at-requires : tie.Need-key_at-requires
+key_at-requires c κs = search rules
 
-read-check-requires : tie.Need-read-check-requires
-read-check-requires c κs =
-    let g = c.before.before.before.before in
+read_check-check-requires : tie.Need-read_check-check-requires
+read_check-check-requires c κs =
     let l = level_at FIRST in
-    let s = g.before.before.args.bytes.now in
-    let e = (step_next (first_of (key_tests l s ++ group_tests l s)) (group_end l s) (sym g.read-fields.ensures ∙ c.before.before.package2.given.1)).0 in
-    rw c.key-at.ensures (key-sized l s (none_done (key_tests l s) (none-append (key_tests l s) (group_tests l s) (none (key_tests l s ++ group_tests l s) e)).0))
+    let s = c.args.bytes.now in
+    let e = (step_next (first_of (key_tests l s ++ group_tests l s)) (group_end l s) (sym c.read_fields-package.ensures ∙ c.in-Next.is)).0 in
+    rw c.key_at.ensures (key-sized l s (none_done (key_tests l s) (none-append (key_tests l s) (group_tests l s) (none (key_tests l s ++ group_tests l s) e)).0))
 
-enum-known-check : tie.Need-enum-known-check
-enum-known-check c = search rules
+enum_known-check : tie.Need-enum_known-check
+enum_known-check c = search rules
 
-enum-known-check-2 : tie.Need-enum-known-check-2
-enum-known-check-2 c = search rules
+enum_known-check-in-Next-check : tie.Need-enum_known-check-in-Next-check
+enum_known-check-in-Next-check c = search rules
 
-read-end-requires : tie.Need-read-end-requires
-read-end-requires c κs = search rules
+read_end-requires : tie.Need-read_end-requires
+read_end-requires c κs = search rules
 
-returns : tie.Need-returns
-returns c =
-    let g = c.before.before.before in
-    let s = g.before.before.args.bytes.now in
-    first_stops (fields s) (later s) (group_end (level_at FIRST) s) (sym g.read-fields.ensures ∙ c.before.package.given.1) ∙ all s
+returns-in-Refused : tie.Need-returns-in-Refused
+returns-in-Refused c =
+    let s = c.args.bytes.now in
+    first_stops (fields s) (later s) (group_end (level_at FIRST) s) (sym c.read_fields-package.ensures ∙ c.in-Refused.is) ∙ all s
 
-returns-2 : tie.Need-returns-2
-returns-2 c =
-    let g = c.before.before.before in
+returns-in-Refused-check : tie.Need-returns-in-Refused-check
+returns-in-Refused-check c =
     let l = level_at FIRST in
-    let s = g.before.before.before.before.before.before.before.args.bytes.now in
-    first_stops (check_tests l s) (end_tests s (check_end l s)) (check_end l s) (sym (reached g).1 ∙ c.before.check.given.1) ∙ sym (reached g).0
+    let s = c.args.bytes.now in
+    first_stops (check_tests l s) (end_tests s (check_end l s)) (check_end l s) (sym (reached c.before).1 ∙ c.in-Refused-check.is) ∙ sym (reached c.before).0
 
-returns-3 : tie.Need-returns-3
-returns-3 c =
-    let g = c.before.before.before.before in
+returns-in-Next-check : tie.Need-returns-in-Next-check
+returns-in-Next-check c =
     let l = level_at FIRST in
-    let s = g.before.before.before.before.before.before.before.args.bytes.now in
-    let h = first_ends (check_tests l s) (end_tests s (check_end l s)) (check_end l s) (sym (reached g).1 ∙ c.before.before.check2.given.1) in
-    c.read-end.ensures ∙ ap (λ at. first_of (end_tests s at)) h.1 ∙ sym h.0 ∙ sym (reached g).0
+    let s = c.args.bytes.now in
+    let h = first_ends (check_tests l s) (end_tests s (check_end l s)) (check_end l s) (sym (reached c.before.before).1 ∙ c.in-Next-check.is) in
+    c.read_end.ensures ∙ ap (λ at. first_of (end_tests s at)) h.1 ∙ sym h.0 ∙ sym (reached c.before.before).0
 
-pub check-file-spec : {M : Type 1} → statement M
-check-file-spec =
+pub check_file_spec : {M : Type 1} → statement M
+check_file_spec =
     tie.close
     (tie.spec
-    read-fields-requires
-    enum-known-package
-    enum-known-package-2
-    key-at-requires
-    read-check-requires
-    enum-known-check
-    enum-known-check-2
-    read-end-requires
-    returns
-    returns-2
-    returns-3)
+    read_fields-package-requires
+    enum_known-package
+    enum_known-package-in-Next-1
+    key_at-requires
+    read_check-check-requires
+    enum_known-check
+    enum_known-check-in-Next-check
+    read_end-requires
+    returns-in-Refused
+    returns-in-Refused-check
+    returns-in-Next-check)

@@ -5,27 +5,34 @@ use Rattle.lists.specs.Words.{part}
 use Rattle.package.proofs.content.Statement.{statement}
 use Rattle.package.proofs.content.Tie as tie
 
-find-requires : tie.Need-find-requires
-find-requires c κs = search rules
+find-p-requires : tie.Need-find-p-requires
+find-p-requires c κs = search rules
 
-add-end : tie.Need-overflow-add-end
-add-end c = search rules
+overflow_add-end : tie.Need-overflow_add-end
+overflow_add-end c = search rules
 
-sub-result : tie.Need-overflow-sub-result
-sub-result c = search rules
+slice_bounds-result-count : tie.Need-slice_bounds-result-count
+slice_bounds-result-count c = search rules
 
-part-result-start : tie.Need-slice-bounds-result-start
-part-result-start c = search rules
+slice_bounds-result-start : tie.Need-slice_bounds-result-start
+slice_bounds-result-start c = search rules
 
-part-result-end : tie.Need-slice-bounds-result-end
-part-result-end c = search rules
+slice_bounds-result-end : tie.Need-slice_bounds-result-end
+slice_bounds-result-end c = search rules
 
 returns : tie.Need-returns
 returns c =
-    let a = c.before.before.before.before.args in
-    let p = c.before.before.find.result in
-    λ l rows w. rw (← c.before.before.find.ensures.0 l rows w) (record { bytes = ap (λ n. part p.start n a.bytes.now) (add-sub_cancel_left p.start p.len); block = refl; offset = add_comm _ _ })
+    let a = c.args in
+    let p = c.find-p.result in
+    λ l rows w. rw (← c.find-p.ensures.0 l rows w) (record { bytes = ap (λ n. part p.start n a.bytes.now) (add-sub_cancel_left p.start p.len); block = refl; offset = add_comm _ _ })
 
-pub content-spec : {M : Type 1} → statement M
-content-spec =
-    tie.close (tie.spec find-requires add-end sub-result part-result-start part-result-end returns)
+pub content_spec : {M : Type 1} → statement M
+content_spec =
+    tie.close
+    (tie.spec
+    find-p-requires
+    overflow_add-end
+    slice_bounds-result-count
+    slice_bounds-result-start
+    slice_bounds-result-end
+    returns)

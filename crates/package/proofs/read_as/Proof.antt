@@ -9,45 +9,43 @@ use Rattle.package.specs.Reading.{read_as, serial_of, contents_of}
 use Rattle.package.proofs.read_as.Statement.{statement}
 use Rattle.package.proofs.read_as.Tie as tie
 
-enum-known-answer : tie.Need-enum-known-answer
-enum-known-answer c = search rules
+enum_known-answer : tie.Need-enum_known-answer
+enum_known-answer c = search rules
 
-enum_told : tie.Need-enum-told
-enum_told c = search rules
+enum_told-1 : tie.Need-enum_told-1
+enum_told-1 c = search rules
 
-key-at-requires : tie.Need-key-at-requires
-key-at-requires c κs = search rules
+key_at-key-requires : tie.Need-key_at-key-requires
+key_at-key-requires c κs = search rules
 
-content-requires : tie.Need-content-requires
-content-requires c κs = search rules
+content-serial-requires : tie.Need-content-serial-requires
+content-serial-requires c κs = search rules
 
-from-bytes-requires : tie.Need-from-bytes-requires
-from-bytes-requires c κs = search rules
+from_bytes-requires : tie.Need-from_bytes-requires
+from_bytes-requires c κs = search rules
 
-returns : tie.Need-returns
-returns c =
-    let s = c.before.before.before.before.args.bytes.now in
-    λ l rows w small. ap (λ r. read_as r (contents_of s rows)) (sym c.before.answer.given.1)
+returns-in-Refused : tie.Need-returns-in-Refused
+returns-in-Refused c =
+    let s = c.args.bytes.now in
+    λ l rows w small. ap (λ r. read_as r (contents_of s rows)) (sym c.in-Refused.is)
 
-returns-2 : tie.Need-returns-2
-returns-2 c =
-    let f = c.before in
-    let k = f.before in
-    let s = k.before.before.before.before.args.bytes.now in
-    let done = k.before.enum_told.given.1 in
+returns-in-Done : tie.Need-returns-in-Done
+returns-in-Done c =
+    let s = c.args.bytes.now in
+    let done = c.in-Done.is in
     λ l rows w small.
-    let serial : c.from_bytes.result ≡ serial_of s rows = omega (arith, c.from_bytes.ensures, ap from_bytes (f.content.ensures l rows (w done)).bytes, small) in
-    ap₂ (λ (key : Key) (x : ℕ). Fields (record { n = key.n; m = key.m; serial = x })) k.key-at.ensures serial
+    let serial : c.from_bytes.result ≡ serial_of s rows = omega (arith, c.from_bytes.ensures, ap from_bytes (c.content-serial.ensures l rows (w done)).bytes, small) in
+    ap₂ (λ (key : Key) (x : ℕ). Fields (record { n = key.n; m = key.m; serial = x })) c.key_at-key.ensures serial
     ∙ ap (λ r. read_as r (contents_of s rows)) (sym done)
 
-pub read-as-spec : {M : Type 1} → statement M
-read-as-spec =
+pub read_as_spec : {M : Type 1} → statement M
+read_as_spec =
     tie.close
     (tie.spec
-    enum-known-answer
-    enum_told
-    key-at-requires
-    content-requires
-    from-bytes-requires
-    returns
-    returns-2)
+    enum_known-answer
+    enum_told-1
+    key_at-key-requires
+    content-serial-requires
+    from_bytes-requires
+    returns-in-Refused
+    returns-in-Done)

@@ -11,48 +11,44 @@ use Rattle.layout.proofs.Files.{key-sized}
 use Rattle.package.proofs.read_fields.Statement.{statement}
 use Rattle.package.proofs.read_fields.Tie as tie
 
-read-key-requires : tie.Need-read-key-requires
-read-key-requires c κs = search rules
+read_key-step-requires : tie.Need-read_key-step-requires
+read_key-step-requires c κs = search rules
 
-enum-known-step : tie.Need-enum-known-step
-enum-known-step c = search rules
+enum_known-step : tie.Need-enum_known-step
+enum_known-step c = search rules
 
-enum-known-step-2 : tie.Need-enum-known-step-2
-enum-known-step-2 c = search rules
+enum_known-step-in-Next-1 : tie.Need-enum_known-step-in-Next-1
+enum_known-step-in-Next-1 c = search rules
 
-key-at-requires : tie.Need-key-at-requires
-key-at-requires c κs = search rules
+key_at-requires : tie.Need-key_at-requires
+key_at-requires c κs = search rules
 
-read-group-requires : tie.Need-read-group-requires
-read-group-requires c κs =
-    let g = c.before.before.before.before in
-    let s = g.before.before.args.bytes.now in
-    rw c.key-at.ensures (key-sized (level_at FIRST) s (step_next (first_of (key_tests (level_at FIRST) s)) (key_end (level_at FIRST) s) (sym g.read-key.ensures ∙ c.before.before.step2.given.1)).0)
+read_group-requires : tie.Need-read_group-requires
+read_group-requires c κs =
+    let s = c.args.bytes.now in
+    rw c.key_at.ensures (key-sized (level_at FIRST) s (step_next (first_of (key_tests (level_at FIRST) s)) (key_end (level_at FIRST) s) (sym c.read_key-step.ensures ∙ c.in-Next.is)).0)
 
-returns : tie.Need-returns
-returns c =
-    let g = c.before.before.before in
-    let s = g.before.before.args.bytes.now in
-    ap (λ a. stepped a (group_end (level_at FIRST) s)) (first_stops (key_tests (level_at FIRST) s) (group_tests (level_at FIRST) s) (key_end (level_at FIRST) s) (sym g.read-key.ensures ∙ c.before.step.given.1))
+returns-in-Refused : tie.Need-returns-in-Refused
+returns-in-Refused c =
+    let s = c.args.bytes.now in
+    ap (λ a. stepped a (group_end (level_at FIRST) s)) (first_stops (key_tests (level_at FIRST) s) (group_tests (level_at FIRST) s) (key_end (level_at FIRST) s) (sym c.read_key-step.ensures ∙ c.in-Refused.is))
 
-returns-2 : tie.Need-returns-2
-returns-2 c =
-    let k = c.before in
-    let g = k.before.before.before.before in
-    let s = g.before.before.args.bytes.now in
-    let h = first_ends (key_tests (level_at FIRST) s) (group_tests (level_at FIRST) s) (key_end (level_at FIRST) s) (sym g.read-key.ensures ∙ k.before.before.step2.given.1) in
-    c.read-group.ensures
-    ∙ ap₂ (λ (key : Key) (at : ℕ). outcome (level_at FIRST) s at (group_rows (level_at FIRST) key s at)) k.key-at.ensures h.1
+returns-in-Next : tie.Need-returns-in-Next
+returns-in-Next c =
+    let s = c.args.bytes.now in
+    let h = first_ends (key_tests (level_at FIRST) s) (group_tests (level_at FIRST) s) (key_end (level_at FIRST) s) (sym c.read_key-step.ensures ∙ c.in-Next.is) in
+    c.read_group.ensures
+    ∙ ap₂ (λ (key : Key) (at : ℕ). outcome (level_at FIRST) s at (group_rows (level_at FIRST) key s at)) c.key_at.ensures h.1
     ∙ ap (λ a. stepped a (group_end (level_at FIRST) s)) (sym h.0)
 
-pub read-fields-spec : {M : Type 1} → statement M
-read-fields-spec =
+pub read_fields_spec : {M : Type 1} → statement M
+read_fields_spec =
     tie.close
     (tie.spec
-    read-key-requires
-    enum-known-step
-    enum-known-step-2
-    key-at-requires
-    read-group-requires
-    returns
-    returns-2)
+    read_key-step-requires
+    enum_known-step
+    enum_known-step-in-Next-1
+    key_at-requires
+    read_group-requires
+    returns-in-Refused
+    returns-in-Next)

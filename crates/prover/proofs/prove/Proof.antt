@@ -14,55 +14,55 @@ use borrow.Author.Rules.{rules}
 use Rattle.prover.proofs.prove.Statement.{statement}
 use Rattle.prover.proofs.prove.Tie as tie
 
-refused-requires : tie.Need-refused-requires
-refused-requires c κs = search rules
+refused-answer-requires : tie.Need-refused-answer-requires
+refused-answer-requires c κs = search rules
 
-enum_told : tie.Need-enum-told
-enum_told c = search rules
+enum_told-1 : tie.Need-enum_told-1
+enum_told-1 c = search rules
 
 work-requires : tie.Need-work-requires
-work-requires c κs = sym c.before.before.before.before.refused.ensures ∙ c.before.before.enum_told.given.1
+work-requires c κs = sym c.refused-answer.ensures ∙ c.in-Done.is
 
-enum-told-2 : tie.Need-enum-told-2
-enum-told-2 c = search rules
+enum_told-in-Refused : tie.Need-enum_told-in-Refused
+enum_told-in-Refused c = search rules
 
-same_length : tie.Need-same-length
-same_length c = search rules
+shape_of-t-in-Done : tie.Need-shape_of-t-in-Done
+shape_of-t-in-Done c = search rules
 
-same-length-2 : tie.Need-same-length-2
-same-length-2 c = search rules
+shape_of-a-in-Done : tie.Need-shape_of-a-in-Done
+shape_of-a-in-Done c = search rules
 
-returns : tie.Need-returns
+returns-in-Done : tie.Need-returns-in-Done
 unfolding prove_outcome
-returns c =
-    let a = c.before.before.before.before.before.before.before.before.before.before.before.before.before.before.before.before.before.before.before.before.before.before.before.args in
-    let e = c.before.before.before.before.work.ensures ∙ decided-after (prove_rows (level_at FIRST) a.key (key_slices a.h.now a.x.now a.y.now) a.positions.now a.u.now a.v.now a.r.now a.s.now a.alpha.now a.t.now a.a.now) (tops_row (level_at FIRST) a.key (key_slices a.h.now a.x.now a.y.now) a.positions.now a.v.now) (prove_result (level_at FIRST) a.key (key_slices a.h.now a.x.now a.y.now) a.positions.now a.u.now a.v.now a.r.now a.s.now a.alpha.now) (a.t.now, a.a.now) (sym c.before.before.before.before.before.before.before.before.before.refused.ensures ∙ c.before.before.before.before.before.before.before.enum_told.given.1) in
+returns-in-Done c =
+    let a = c.args in
+    let e = c.work.ensures ∙ decided-after (prove_rows (level_at FIRST) a.key (key_slices a.h.now a.x.now a.y.now) a.positions.now a.u.now a.v.now a.r.now a.s.now a.alpha.now a.t.now a.a.now) (tops_row (level_at FIRST) a.key (key_slices a.h.now a.x.now a.y.now) a.positions.now a.v.now) (prove_result (level_at FIRST) a.key (key_slices a.h.now a.x.now a.y.now) a.positions.now a.u.now a.v.now a.r.now a.s.now a.alpha.now) (a.t.now, a.a.now) (sym c.refused-answer.ensures ∙ c.in-Done.is) in
     (e, (leans FIRST a.key (long (prove_lent (lengths (level_at FIRST) a.key) (key_slices a.h.now a.x.now a.y.now) a.positions.now a.u.now a.v.now a.r.now a.s.now a.alpha.now a.t.now a.a.now)) (key_slices a.h.now a.x.now a.y.now) (below 1 a.u.now) (withins (level_at FIRST) (a.v.now ∷ a.r.now ∷ a.s.now ∷ a.alpha.now ∷ [])) (codes_of a.key.n a.positions.now) (spare_row (codes_of a.key.n a.positions.now) ++ tops_row (level_at FIRST) a.key (key_slices a.h.now a.x.now a.y.now) a.positions.now a.v.now) (λ z. omega (arith, z), (λ z. omega (arith, z), tt)) (ap (λ (o : Answer × (List ℕ × List ℕ)). o.0) e), solved FIRST a.key (key_slices a.h.now a.x.now a.y.now) a.positions.now a.u.now a.v.now a.r.now a.s.now a.alpha.now a.t.now a.a.now (ap (λ (o : Answer × (List ℕ × List ℕ)). o.0) e)))
 
-same-length-3 : tie.Need-same-length-3
-same-length-3 c = search rules
+shape_of-t-in-Refused : tie.Need-shape_of-t-in-Refused
+shape_of-t-in-Refused c = search rules
 
-same-length-4 : tie.Need-same-length-4
-same-length-4 c = search rules
+shape_of-a-in-Refused : tie.Need-shape_of-a-in-Refused
+shape_of-a-in-Refused c = search rules
 
-returns-2 : tie.Need-returns-2
+returns-in-Refused : tie.Need-returns-in-Refused
 unfolding prove_outcome
-returns-2 c =
-    let a = c.before.before.before.before.before.before.before.before.before.before.before.before.before.before.before.before.args in
-    let e = after-refused (prove_rows (level_at FIRST) a.key (key_slices a.h.now a.x.now a.y.now) a.positions.now a.u.now a.v.now a.r.now a.s.now a.alpha.now a.t.now a.a.now) (tops_row (level_at FIRST) a.key (key_slices a.h.now a.x.now a.y.now) a.positions.now a.v.now) c.before.before.refused.ensures c.enum-told2.given.1 in
-    (when_refused (prove_rows (level_at FIRST) a.key (key_slices a.h.now a.x.now a.y.now) a.positions.now a.u.now a.v.now a.r.now a.s.now a.alpha.now a.t.now a.a.now ++ tops_row (level_at FIRST) a.key (key_slices a.h.now a.x.now a.y.now) a.positions.now a.v.now) (prove_result (level_at FIRST) a.key (key_slices a.h.now a.x.now a.y.now) a.positions.now a.u.now a.v.now a.r.now a.s.now a.alpha.now) (a.t.now, a.a.now) e c.enum-told2.given.1, (leans FIRST a.key (long (prove_lent (lengths (level_at FIRST) a.key) (key_slices a.h.now a.x.now a.y.now) a.positions.now a.u.now a.v.now a.r.now a.s.now a.alpha.now a.t.now a.a.now)) (key_slices a.h.now a.x.now a.y.now) (below 1 a.u.now) (withins (level_at FIRST) (a.v.now ∷ a.r.now ∷ a.s.now ∷ a.alpha.now ∷ [])) (codes_of a.key.n a.positions.now) (spare_row (codes_of a.key.n a.positions.now) ++ tops_row (level_at FIRST) a.key (key_slices a.h.now a.x.now a.y.now) a.positions.now a.v.now) (λ z. omega (arith, z), (λ z. omega (arith, z), tt)) e, solved FIRST a.key (key_slices a.h.now a.x.now a.y.now) a.positions.now a.u.now a.v.now a.r.now a.s.now a.alpha.now a.t.now a.a.now e))
+returns-in-Refused c =
+    let a = c.args in
+    let e = after-refused (prove_rows (level_at FIRST) a.key (key_slices a.h.now a.x.now a.y.now) a.positions.now a.u.now a.v.now a.r.now a.s.now a.alpha.now a.t.now a.a.now) (tops_row (level_at FIRST) a.key (key_slices a.h.now a.x.now a.y.now) a.positions.now a.v.now) c.refused-answer.ensures c.in-Refused.is in
+    (when_refused (prove_rows (level_at FIRST) a.key (key_slices a.h.now a.x.now a.y.now) a.positions.now a.u.now a.v.now a.r.now a.s.now a.alpha.now a.t.now a.a.now ++ tops_row (level_at FIRST) a.key (key_slices a.h.now a.x.now a.y.now) a.positions.now a.v.now) (prove_result (level_at FIRST) a.key (key_slices a.h.now a.x.now a.y.now) a.positions.now a.u.now a.v.now a.r.now a.s.now a.alpha.now) (a.t.now, a.a.now) e c.in-Refused.is, (leans FIRST a.key (long (prove_lent (lengths (level_at FIRST) a.key) (key_slices a.h.now a.x.now a.y.now) a.positions.now a.u.now a.v.now a.r.now a.s.now a.alpha.now a.t.now a.a.now)) (key_slices a.h.now a.x.now a.y.now) (below 1 a.u.now) (withins (level_at FIRST) (a.v.now ∷ a.r.now ∷ a.s.now ∷ a.alpha.now ∷ [])) (codes_of a.key.n a.positions.now) (spare_row (codes_of a.key.n a.positions.now) ++ tops_row (level_at FIRST) a.key (key_slices a.h.now a.x.now a.y.now) a.positions.now a.v.now) (λ z. omega (arith, z), (λ z. omega (arith, z), tt)) e, solved FIRST a.key (key_slices a.h.now a.x.now a.y.now) a.positions.now a.u.now a.v.now a.r.now a.s.now a.alpha.now a.t.now a.a.now e))
 
-pub prove-spec : {M : Type 1} → statement M
-prove-spec =
+pub prove_spec : {M : Type 1} → statement M
+prove_spec =
     tie.close
     (tie.spec
-    refused-requires
-    enum_told
+    refused-answer-requires
+    enum_told-1
     work-requires
-    enum-told-2
-    same_length
-    same-length-2
-    returns
-    same-length-3
-    same-length-4
-    returns-2)
+    enum_told-in-Refused
+    shape_of-t-in-Done
+    shape_of-a-in-Done
+    returns-in-Done
+    shape_of-t-in-Refused
+    shape_of-a-in-Refused
+    returns-in-Refused)

@@ -28,35 +28,40 @@ degree-requires c κs = (fitting c.before.before.before.before.before.before.bef
 
 tops-requires : tie.Need-tops-requires
 tops-requires c κs =
-    let s = c.before.before.before.before.before.before.before.before.before in
-    let a = s.args in
-    let r = fitting s in
-    subst (λ d. LentKey (level_at FIRST) a.key.n a.key.m a.h.now a.x.now × (d < 64) × (a.key.n ≤ 2 ^ d) × (length a.positions.now ≡ a.key.n) × Fits (level_at FIRST) (a.key.n + a.key.m) (length a.p.now) × Fits (level_at FIRST) (2 ^ d) (length a.work.now) × LentTarget (level_at FIRST) a.key.m a.y.now) (sym c.before.degree.ensures)
-    (s.requires.0.1, r.d-lt, r.columns, s.requires.1.0, elements s, fits_le (level_at FIRST) (2 ^ degree a.key.n) ((degree a.key.n + 1) * 2 ^ degree a.key.n) (many (degree a.key.n) (2 ^ degree a.key.n)) s.requires.1.2 r.polynomials, s.requires.0.2)
+    let a = c.args in
+    let r = fitting c.before.before.before.before.before.before.before.before.before in
+    subst (λ d. LentKey (level_at FIRST) a.key.n a.key.m a.h.now a.x.now × (d < 64) × (a.key.n ≤ 2 ^ d) × (length a.positions.now ≡ a.key.n) × Fits (level_at FIRST) (a.key.n + a.key.m) (length a.p.now) × Fits (level_at FIRST) (2 ^ d) (length a.work.now) × LentTarget (level_at FIRST) a.key.m a.y.now) (sym c.degree.ensures)
+    (c.requires.0.1, r.d-lt, r.columns, c.requires.1.0, elements c.before.before.before.before.before.before.before.before.before, fits_le (level_at FIRST) (2 ^ degree a.key.n) ((degree a.key.n + 1) * 2 ^ degree a.key.n) (many (degree a.key.n) (2 ^ degree a.key.n)) c.requires.1.2 r.polynomials, c.requires.0.2)
 
-add-nonzero : tie.Need-overflow-add-nonzero
-add-nonzero c = let s = c.before.before.before.before.before.before.before.before.before.before.before.before.before.before.before.requires.0.0 in omega (arith, s.most, s.fewer, (bounded FIRST).most)
+overflow_add-n : tie.Need-overflow_add-n
+overflow_add-n c = let s = c.requires.0.0 in omega (arith, s.most, s.fewer, (bounded FIRST).most)
 
 nonzero-requires : tie.Need-nonzero-requires
 nonzero-requires c κs =
-    let s = c.before.before.before.before.before.before.before.before.before.before.before.before.before.before.before in
-    let t = c.before.before.before.before.before.tops.ensures in
-    (t.words, fits_le (level_at FIRST) _ (s.args.key.n + s.args.key.m) (omega (arith, s.requires.0.0.two)) t.same (elements s))
+    let t = c.tops.ensures in
+    (t.words, fits_le (level_at FIRST) _ (c.args.key.n + c.args.key.m) (omega (arith, c.requires.0.0.two)) t.same (elements c.before.before.before.before.before.before.before.before.before.before.before.before.before.before))
 
-same_length : tie.Need-same-length
-same_length c = c.before.before.before.before.before.before.tops.ensures.same
+shape_of-p : tie.Need-shape_of-p
+shape_of-p c = c.tops.ensures.same
 
-same-length-2 : tie.Need-same-length-2
-same-length-2 c = c.before.before.before.before.before.before.tops.auto.1.1.1.1.1.1.1.1.0
+shape_of-work : tie.Need-shape_of-work
+shape_of-work c = c.tops.auto.work
 
 returns : tie.Need-returns
 returns c v =
-    let a = c.before.before.before.before.before.before.before.before.before.before.before.before.before.before.before.before.args in
-    let t = c.before.before.before.before.before.before.tops in
-    let o : Tops (level_at FIRST) a.key.n a.key.m (degree a.key.n) a.h.now a.x.now a.y.now a.positions.now v (el (level_at FIRST) t.new.0) = subst (λ d. Tops (level_at FIRST) a.key.n a.key.m d a.h.now a.x.now a.y.now a.positions.now v (el (level_at FIRST) t.new.0)) c.before.before.before.before.before.before.before.before.degree.ensures (t.ensures.holds v) in
-    c.nonzero.ensures ∙ tops-same (level_at FIRST) a.key.n a.key.m (key_slices a.h.now a.x.now a.y.now) a.positions.now v t.new.0 o.columns o.checks
+    let a = c.args in
+    let t = c.tops in
+    let o : Tops (level_at FIRST) a.key.n a.key.m (degree a.key.n) a.h.now a.x.now a.y.now a.positions.now v (el (level_at FIRST) t.new.dst) = subst (λ d. Tops (level_at FIRST) a.key.n a.key.m d a.h.now a.x.now a.y.now a.positions.now v (el (level_at FIRST) t.new.dst)) c.degree.ensures (t.ensures.holds v) in
+    c.nonzero.ensures ∙ tops-same (level_at FIRST) a.key.n a.key.m (key_slices a.h.now a.x.now a.y.now) a.positions.now v t.new.dst o.columns o.checks
 
-pub tops-spec : {M : Type 1} → statement M
-tops-spec =
+pub tops_spec : {M : Type 1} → statement M
+tops_spec =
     tie.close
-    (tie.spec degree-requires tops-requires add-nonzero nonzero-requires same_length same-length-2 returns)
+    (tie.spec
+    degree-requires
+    tops-requires
+    overflow_add-n
+    nonzero-requires
+    shape_of-p
+    shape_of-work
+    returns)

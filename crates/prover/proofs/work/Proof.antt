@@ -3,25 +3,31 @@ use Rattle.row.proofs.ListLaws.{blanks-length}
 use Rattle.prover.proofs.work.Statement.{statement}
 use Rattle.prover.proofs.work.Tie as tie
 
-slice-aggregate-weigh : tie.Need-slice-aggregate-weigh
-slice-aggregate-weigh c = search rules
+slice_bounds-weigh-end : tie.Need-slice_bounds-weigh-end
+slice_bounds-weigh-end c = search rules
 
-slice-aggregate-weigh-2 : tie.Need-slice-aggregate-weigh-2
-slice-aggregate-weigh-2 c = search rules
+slice_bounds-weigh-end-2 : tie.Need-slice_bounds-weigh-end-2
+slice_bounds-weigh-end-2 c = search rules
 
 weigh-requires : tie.Need-weigh-requires
-weigh-requires c κs = (c.before.before.before.before.before.before.before.before.before.before.before.before.before.before.before.requires, (blanks-length 1524, blanks-length 5376))
+weigh-requires c κs = (c.requires, (blanks-length 1524, blanks-length 5376))
 
-same_length : tie.Need-same-length
-same_length c = search rules
+shape_of-t : tie.Need-shape_of-t
+shape_of-t c = search rules
 
-same-length-2 : tie.Need-same-length-2
-same-length-2 c = search rules
+shape_of-a : tie.Need-shape_of-a
+shape_of-a c = search rules
 
 returns : tie.Need-returns
-returns c = c.before.before.before.before.before.before.weigh.ensures
+returns c = c.weigh.ensures
 
-pub work-spec : {M : Type 1} → statement M
-work-spec =
+pub work_spec : {M : Type 1} → statement M
+work_spec =
     tie.close
-    (tie.spec slice-aggregate-weigh slice-aggregate-weigh-2 weigh-requires same_length same-length-2 returns)
+    (tie.spec
+    slice_bounds-weigh-end
+    slice_bounds-weigh-end-2
+    weigh-requires
+    shape_of-t
+    shape_of-a
+    returns)

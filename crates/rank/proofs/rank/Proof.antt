@@ -9,44 +9,44 @@ use Rattle.rank.proofs.rank.Tie as tie
 refused-requires : tie.Need-refused-requires
 refused-requires c κs = search rules
 
-enum_told : tie.Need-enum-told
-enum_told c = search rules
+enum_told-1 : tie.Need-enum_told-1
+enum_told-1 c = search rules
 
 rank-requires : tie.Need-rank-requires
 rank-requires c κs =
-    let a = c.before.before.before.before.before.before.before.args in
-    let f = fine FIRST a.key a.h.now a.matrix.now (sym c.before.before.before.refused.ensures ∙ c.before.enum_told.given.1) in
+    let a = c.args in
+    let f = fine FIRST a.key a.h.now a.matrix.now (sym c.refused.ensures ∙ c.in-Done.is) in
     (f.h-length, f.matrix-length ∙ sym f.h-length, omega (arith, f.is-sized.fewer), f.is-sized.most, f.h-words)
 
-enum-known-refusal : tie.Need-enum-known-refusal
-enum-known-refusal c = search rules
+enum_known-refusal : tie.Need-enum_known-refusal
+enum_known-refusal c = search rules
 
-same_length : tie.Need-same-length
-same_length c = search rules
+shape_of-matrix-in-Done : tie.Need-shape_of-matrix-in-Done
+shape_of-matrix-in-Done c = search rules
 
-returns : tie.Need-returns
-returns c =
-    let a = c.before.before.before.before.before.before.before.before.before.before.args in
-    let e = c.before.before.rank.ensures in
-    (ranked FIRST a.key a.h.now a.matrix.now c.before.before.before.before.before.before.refused.ensures c.before.before.before.before.enum_told.given.1 e.0 e.1, tells FIRST a.key a.h.now e.0)
+returns-in-Done : tie.Need-returns-in-Done
+returns-in-Done c =
+    let a = c.args in
+    let e = c.rank.ensures in
+    (ranked FIRST a.key a.h.now a.matrix.now c.refused.ensures c.in-Done.is e.0 e.1, tells FIRST a.key a.h.now e.0)
 
-same-length-2 : tie.Need-same-length-2
-same-length-2 c = search rules
+shape_of-matrix-in-Refused : tie.Need-shape_of-matrix-in-Refused
+shape_of-matrix-in-Refused c = search rules
 
-returns-2 : tie.Need-returns-2
-returns-2 c =
-    let a = c.before.before.before.before.before.before.before.args in
-    (refused FIRST a.key a.h.now a.matrix.now c.before.before.before.refused.ensures c.before.refusal.given.1, tells_none FIRST a.key a.h.now)
+returns-in-Refused : tie.Need-returns-in-Refused
+returns-in-Refused c =
+    let a = c.args in
+    (refused FIRST a.key a.h.now a.matrix.now c.refused.ensures c.in-Refused.is, tells_none FIRST a.key a.h.now)
 
-pub rank-spec : {M : Type 1} → statement M
-rank-spec =
+pub rank_spec : {M : Type 1} → statement M
+rank_spec =
     tie.close
     (tie.spec
     refused-requires
-    enum_told
+    enum_told-1
     rank-requires
-    enum-known-refusal
-    same_length
-    returns
-    same-length-2
-    returns-2)
+    enum_known-refusal
+    shape_of-matrix-in-Done
+    returns-in-Done
+    shape_of-matrix-in-Refused
+    returns-in-Refused)

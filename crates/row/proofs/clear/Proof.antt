@@ -8,53 +8,53 @@ use Rattle.row.proofs.ListLaws.{copied_more, copied_all, blanks, blanks-length, 
 use Rattle.row.proofs.clear.Statement.{statement}
 use Rattle.row.proofs.clear.Tie as tie
 
-abbrev invariant-loop : tie.invariant-loop
-invariant-loop s₀ j₀ s j = (j ≤ length s₀) × (length s ≡ length s₀) × (s ≡ take j (blanks (length s₀)) ++ drop j s₀)
+abbrev invariant-loop-j : tie.invariant-loop-j
+invariant-loop-j s₀ j₀ s j = (j ≤ length s₀) × (length s ≡ length s₀) × (s ≡ take j (blanks (length s₀)) ++ drop j s₀)
 
-abbrev decreases-loop : tie.decreases-loop
-decreases-loop s₀ j₀ s j = length s₀ - j
+abbrev decreases-loop-j : tie.decreases-loop-j
+decreases-loop-j s₀ j₀ s j = length s₀ - j
 
-loop-holds : tie.Need-loop-init invariant-loop decreases-loop
-loop-holds c = (omega arith, refl, refl)
+loop-j-init : tie.Need-loop-j-init invariant-loop-j decreases-loop-j
+loop-j-init c = (omega arith, refl, refl)
 
-mul-s : tie.Need-overflow-mul-s invariant-loop decreases-loop
-mul-s c = search rules
+offset_bounds-s-j : tie.Need-offset_bounds-s-j invariant-loop-j decreases-loop-j
+offset_bounds-s-j c = search rules
 
-slice-write-s : tie.Need-slice-write-s invariant-loop decreases-loop
-slice-write-s c = search rules
+bounds-s-j : tie.Need-bounds-s-j invariant-loop-j decreases-loop-j
+bounds-s-j c = search rules
 
-add-j : tie.Need-overflow-add-j invariant-loop decreases-loop
-add-j c = search rules
+overflow_add-j : tie.Need-overflow_add-j invariant-loop-j decreases-loop-j
+overflow_add-j c = search rules
 
-loop-less : tie.Need-loop-smaller invariant-loop decreases-loop
-loop-less c = search rules
+loop-j-smaller : tie.Need-loop-j-smaller invariant-loop-j decreases-loop-j
+loop-j-smaller c = search rules
 
-loop-again : tie.Need-loop-preserved invariant-loop decreases-loop
-loop-again c =
-    let l = c.before.loop in
-    let x = c.before.before.args.s.now in
+loop-j-preserved : tie.Need-loop-j-preserved invariant-loop-j decreases-loop-j
+loop-j-preserved c =
+    let l = c.loop-j in
+    let x = c.args.s.now in
     (omega arith, simp length-set l.invariant.1, rw l.invariant.2 (copied_more l.j 0 (blanks (length x)) x (omega (arith, blanks-length (length x))) (omega arith) (sym (blanks_at (length x) l.j))))
 
-same_length : tie.Need-same-length invariant-loop decreases-loop
-same_length c = c.before.loop.invariant.1
+shape_of-s : tie.Need-shape_of-s invariant-loop-j decreases-loop-j
+shape_of-s c = c.loop-j.invariant.1
 
-returns : tie.Need-returns invariant-loop decreases-loop
+returns : tie.Need-returns invariant-loop-j decreases-loop-j
 returns c =
-    let l = c.before.loop in
-    let x = c.before.before.args.s.now in
+    let l = c.loop-j in
+    let x = c.args.s.now in
     l.invariant.2 ∙ copied_all l.j (blanks (length x)) x (omega (arith, blanks-length (length x))) (omega arith)
 
 pub clear_spec : {M : Type 1} → statement M
 clear_spec =
     tie.close
     (tie.spec
-    invariant-loop
-    decreases-loop
-    loop-holds
-    mul-s
-    slice-write-s
-    add-j
-    loop-less
-    loop-again
-    same_length
+    invariant-loop-j
+    decreases-loop-j
+    loop-j-init
+    offset_bounds-s-j
+    bounds-s-j
+    overflow_add-j
+    loop-j-smaller
+    loop-j-preserved
+    shape_of-s
     returns)

@@ -31,88 +31,88 @@ xor-word (suc (suc a)) b h l = absurd (omega arith)
 abbrev word : (u : List ℕ) (at position d k : ℕ) → ℕ
 word u at position d k = cond (xor (digit d position k) (odd (get_or u (at + k) 0))) 1 0
 
-abbrev invariant-loop : tie.invariant-loop
-invariant-loop t₀ u at position d k₀ t k = (k ≤ d) × (length t ≡ length t₀) × (t ≡ paste t₀ at (tab d (word u at position d)) k)
+abbrev invariant-loop-k : tie.invariant-loop-k
+invariant-loop-k t₀ u at position d k₀ t k = (k ≤ d) × (length t ≡ length t₀) × (t ≡ paste t₀ at (tab d (word u at position d)) k)
 
-abbrev decreases-loop : tie.decreases-loop
-decreases-loop t₀ u at position d k₀ t k = d - k
+abbrev decreases-loop-k : tie.decreases-loop-k
+decreases-loop-k t₀ u at position d k₀ t k = d - k
 
-loop-holds : tie.Need-loop-init invariant-loop decreases-loop
-loop-holds c = (omega arith, refl, paste-zero c.args.t.now c.args.at (tab c.args.d (word c.args.u.now c.args.at c.args.position c.args.d)))
+loop-k-init : tie.Need-loop-k-init invariant-loop-k decreases-loop-k
+loop-k-init c = (omega arith, refl, paste-zero c.args.t.now c.args.at (tab c.args.d (word c.args.u.now c.args.at c.args.position c.args.d)))
 
-sub-digit : tie.Need-overflow-sub-digit invariant-loop decreases-loop
-sub-digit c = search rules
+overflow_sub-digit : tie.Need-overflow_sub-digit invariant-loop-k decreases-loop-k
+overflow_sub-digit c = search rules
 
-sub-digit-2 : tie.Need-overflow-sub-digit-2 invariant-loop decreases-loop
-sub-digit-2 c = search rules
+overflow_sub-digit-in-loop-k : tie.Need-overflow_sub-digit-in-loop-k invariant-loop-k decreases-loop-k
+overflow_sub-digit-in-loop-k c = search rules
 
-shr-digit : tie.Need-overflow-shr-digit invariant-loop decreases-loop
-shr-digit c = search rules
+overflow_shr-digit : tie.Need-overflow_shr-digit invariant-loop-k decreases-loop-k
+overflow_shr-digit c = search rules
 
-cast-digit : tie.Need-overflow-cast-digit invariant-loop decreases-loop
-cast-digit c = search rules
+overflow_cast-digit : tie.Need-overflow_cast-digit invariant-loop-k decreases-loop-k
+overflow_cast-digit c = search rules
 
-add-t : tie.Need-overflow-add-t invariant-loop decreases-loop
-add-t c = search rules
+overflow_add-t : tie.Need-overflow_add-t invariant-loop-k decreases-loop-k
+overflow_add-t c = search rules
 
-shared-slice-read-t : tie.Need-shared-slice-read-t invariant-loop decreases-loop
-shared-slice-read-t c = search rules
+bounds-u-at : tie.Need-bounds-u-at invariant-loop-k decreases-loop-k
+bounds-u-at c = search rules
 
-add-t-2 : tie.Need-overflow-add-t-2 invariant-loop decreases-loop
-add-t-2 c = search rules
+overflow_add-t-in-loop-k : tie.Need-overflow_add-t-in-loop-k invariant-loop-k decreases-loop-k
+overflow_add-t-in-loop-k c = search rules
 
-slice-write-t : tie.Need-slice-write-t invariant-loop decreases-loop
-slice-write-t c = search rules
+bounds-t-at : tie.Need-bounds-t-at invariant-loop-k decreases-loop-k
+bounds-t-at c = search rules
 
-add-k : tie.Need-overflow-add-k invariant-loop decreases-loop
-add-k c = search rules
+overflow_add-k : tie.Need-overflow_add-k invariant-loop-k decreases-loop-k
+overflow_add-k c = search rules
 
-loop-less : tie.Need-loop-smaller invariant-loop decreases-loop
-loop-less c = search rules
+loop-k-smaller : tie.Need-loop-k-smaller invariant-loop-k decreases-loop-k
+loop-k-smaller c = search rules
 
-loop-again : tie.Need-loop-preserved invariant-loop decreases-loop
+loop-k-preserved : tie.Need-loop-k-preserved invariant-loop-k decreases-loop-k
 unfolding digit
-loop-again c =
-    let a = c.before.before.before.args in
-    let l = c.before.before.loop in
+loop-k-preserved c =
+    let a = c.args in
+    let l = c.loop-k in
     let f = word a.u.now a.at a.position a.d in
     let x = a.position / 2 ^ (a.d - 1 - l.k) % 2 in
-    let inside : l.k < a.d = c.before.loop-test.true in (
+    let inside : l.k < a.d = c.loop-k-test.true in (
       omega arith,
       simp length-set l.invariant.1,
-      ap₂ (λ (v : List ℕ) (y : ℕ). set v (a.at + l.k) y) l.invariant.2 (xor-word x (get_or a.u.now (a.at + l.k) 0) (omega arith) (c.before.before.before.requires.0 (a.at + l.k)) ∙ sym (tab-at a.d f l.k inside))
-          ∙ paste-suc a.t.now a.at (tab a.d f) l.k 0 (omega (arith, c.before.before.before.requires.3)) (omega (arith, tab-length a.d f))
+      ap₂ (λ (v : List ℕ) (y : ℕ). set v (a.at + l.k) y) l.invariant.2 (xor-word x (get_or a.u.now (a.at + l.k) 0) (omega arith) (c.requires.0 (a.at + l.k)) ∙ sym (tab-at a.d f l.k inside))
+          ∙ paste-suc a.t.now a.at (tab a.d f) l.k 0 (omega (arith, c.requires.3)) (omega (arith, tab-length a.d f))
           ∙ ap (paste a.t.now a.at (tab a.d f)) (sym (add-one l.k)),
     )
 
-same_length : tie.Need-same-length invariant-loop decreases-loop
-same_length c = c.before.loop.invariant.1
+shape_of-t : tie.Need-shape_of-t invariant-loop-k decreases-loop-k
+shape_of-t c = c.loop-k.invariant.1
 
-returns : tie.Need-returns invariant-loop decreases-loop
+returns : tie.Need-returns invariant-loop-k decreases-loop-k
 returns c =
-    let a = c.before.before.args in
-    let l = c.before.loop in
+    let a = c.args in
+    let l = c.loop-k in
     let f = word a.u.now a.at a.position a.d in
     let done : a.d ≡ l.k = omega arith in
     l.invariant.2 ∙ put_pasted a.at l.k (tab a.d f) a.t.now (tab-length a.d f ∙ done)
 
-pub masked-row-spec : {M : Type 1} → statement M
-masked-row-spec =
+pub masked_row_spec : {M : Type 1} → statement M
+masked_row_spec =
     tie.close
     (tie.spec
-    invariant-loop
-    decreases-loop
-    loop-holds
-    sub-digit
-    sub-digit-2
-    shr-digit
-    cast-digit
-    add-t
-    shared-slice-read-t
-    add-t-2
-    slice-write-t
-    add-k
-    loop-less
-    loop-again
-    same_length
+    invariant-loop-k
+    decreases-loop-k
+    loop-k-init
+    overflow_sub-digit
+    overflow_sub-digit-in-loop-k
+    overflow_shr-digit
+    overflow_cast-digit
+    overflow_add-t
+    bounds-u-at
+    overflow_add-t-in-loop-k
+    bounds-t-at
+    overflow_add-k
+    loop-k-smaller
+    loop-k-preserved
+    shape_of-t
     returns)

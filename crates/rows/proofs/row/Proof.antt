@@ -13,42 +13,47 @@ use Rattle.rows.proofs.row.Tie as tie
 
 tree-requires : tie.Need-tree-requires
 tree-requires c κs =
-    let w = c.before.before.before.before.before.before.requires.0 in
-    let p = c.before.before.before.before.before.before.requires.1 in
+    let w = c.requires.0 in
+    let p = c.requires.1 in
     (w.1, w.2, p.0, p.5, p.4)
 
-add-share : tie.Need-overflow-add-share
-add-share c = omega (arith, c.before.before.before.before.before.before.before.before.before.before.before.requires.1.0)
+overflow_add-d : tie.Need-overflow_add-d
+overflow_add-d c = omega (arith, c.requires.1.0)
 
 share-requires : tie.Need-share-requires
 share-requires c κs =
-    let s = c.before.before.before.before.before.before.before.before.before.before.before in
-    let w = s.requires.0 in
-    let p = s.requires.1 in
-    let t = c.before.before.before.before.tree.ensures in
-    (w.0, t.words, w.3, p.2, p.3, fits_le (level_at s.args.level) ((s.args.d + 1) * s.args.n) ((s.args.d + 1) * 2 ^ s.args.d) (mul-le-mul_left (s.args.d + 1) p.1) t.same p.5)
+    let w = c.requires.0 in
+    let p = c.requires.1 in
+    let t = c.tree.ensures in
+    (w.0, t.words, w.3, p.2, p.3, fits_le (level_at c.args.level) ((c.args.d + 1) * c.args.n) ((c.args.d + 1) * 2 ^ c.args.d) (mul-le-mul_left (c.args.d + 1) p.1) t.same p.5)
 
-same_length : tie.Need-same-length
-same_length c = search rules
+shape_of-dst : tie.Need-shape_of-dst
+shape_of-dst c = search rules
 
-same-length-2 : tie.Need-same-length-2
-same-length-2 c = search rules
+shape_of-work : tie.Need-shape_of-work
+shape_of-work c = search rules
 
 returns : tie.Need-returns
 returns c =
-    let s = c.before.before.before.before.before.before.before.before.before.before.before.before.before.before in
-    let l = level_at s.args.level in
-    let t = c.before.before.before.before.before.before.before.tree in
-    let r = c.before.before.share in (
+    let l = level_at c.args.level in
+    let t = c.tree in
+    let r = c.share in (
       record {
         same = r.ensures.same;
         words = r.ensures.words;
-        holds = shared_same (K l) (el l s.args.dst.now) (el l r.new.0) s.args.n s.args.m (s.args.d + 1) (λ j k. el l t.new.0 ((s.args.d + 1) * j + k)) (z (K l) s.args.d (digit s.args.d s.args.position) (λ k. el l s.args.offsets.now (s.args.at + k))) (small_of l s.args.x.now) (λ e. entry_of l s.args.n s.args.h.now e s.args.i)
-            (λ j a k b. t.ensures.holds j (omega (arith, s.requires.1.1)) k b) r.ensures.holds;
+        holds = shared_same (K l) (el l c.args.dst.now) (el l r.new.dst) c.args.n c.args.m (c.args.d + 1) (λ j k. el l t.new.buf ((c.args.d + 1) * j + k)) (z (K l) c.args.d (digit c.args.d c.args.position) (λ k. el l c.args.offsets.now (c.args.at + k))) (small_of l c.args.x.now) (λ e. entry_of l c.args.n c.args.h.now e c.args.i)
+            (λ j a k b. t.ensures.holds j (omega (arith, c.requires.1.1)) k b) r.ensures.holds;
       },
       t.ensures.words,
     )
 
-pub row-spec : {M : Type 1} → statement M
-row-spec =
-    tie.close (tie.spec tree-requires add-share share-requires same_length same-length-2 returns)
+pub row_spec : {M : Type 1} → statement M
+row_spec =
+    tie.close
+    (tie.spec
+    tree-requires
+    overflow_add-d
+    share-requires
+    shape_of-dst
+    shape_of-work
+    returns)

@@ -7,14 +7,18 @@ use Rattle.key.specs.Key.{key_slices}
 use Rattle.verifier.proofs.lengths.Statement.{statement}
 use Rattle.verifier.proofs.lengths.Tie as tie
 
-lengths-requires : tie.Need-lengths-requires
-lengths-requires c κs = c.before.before.before.before.before.before.before.before.before.requires
+lengths-len-requires : tie.Need-lengths-len-requires
+lengths-len-requires c κs = c.requires
 
 returns : tie.Need-returns
 returns c =
-    let a = c.before.before.before.before.before.before.before.before.before.before.before.before.before.before.before.before.before.before.before.args in
-    let n = c.before.before.before.before.before.before.before.before.before.lengths in
+    let a = c.args in
+    let n = c.lengths-len in
     differences-long (verify_lent n.result (key_slices a.h.now a.x.now a.y.now) a.t.now a.q.now a.delta.now a.masks.now a.alpha.now a.a.now) ∙ ap (λ (n : Lengths). long (verify_lent n (key_slices a.h.now a.x.now a.y.now) a.t.now a.q.now a.delta.now a.masks.now a.alpha.now a.a.now)) n.ensures
 
-pub lengths-spec : {M : Type 1} → statement M
-lengths-spec = tie.close (tie.spec lengths-requires returns)
+pub lengths_spec : {M : Type 1} → statement M
+lengths_spec =
+    tie.close
+    (tie.spec
+    lengths-len-requires
+    returns)

@@ -10,38 +10,38 @@ use Rattle.verifier.proofs.verify.Tie as tie
 refused-requires : tie.Need-refused-requires
 refused-requires c κs = search rules
 
-enum_told : tie.Need-enum-told
-enum_told c = search rules
+enum_told-1 : tie.Need-enum_told-1
+enum_told-1 c = search rules
 
 work-requires : tie.Need-work-requires
-work-requires c κs = sym c.before.before.refused.ensures ∙ c.enum_told.given.1
+work-requires c κs = sym c.refused.ensures ∙ c.in-Done.is
 
-enum-known-refusal : tie.Need-enum-known-refusal
-enum-known-refusal c = search rules
+enum_known-refusal : tie.Need-enum_known-refusal
+enum_known-refusal c = search rules
 
-returns : tie.Need-returns
-returns c =
-    let a = c.before.before.before.before.before.before.before.before.before.before.before.before.before.before.args in
-    told FIRST a.key (key_slices a.h.now a.x.now a.y.now) a.t.now a.q.now a.delta.now a.masks.now a.alpha.now a.a.now c.before.before.before.before.refused.ensures c.before.before.enum_told.given.1 c.before.work.ensures (eq-eqb c.before.work.result 0 c.if1.true) refl
+returns-then-work-eq0 : tie.Need-returns-then-work-eq0
+returns-then-work-eq0 c =
+    let a = c.args in
+    told FIRST a.key (key_slices a.h.now a.x.now a.y.now) a.t.now a.q.now a.delta.now a.masks.now a.alpha.now a.a.now c.refused.ensures c.in-Done.is c.work.ensures (eq-eqb c.work.result 0 c.if-work-eq0.true) refl
 
-returns-2 : tie.Need-returns-2
-returns-2 c =
-    let a = c.before.before.before.before.before.before.before.before.before.before.before.before.before.before.args in
-    told FIRST a.key (key_slices a.h.now a.x.now a.y.now) a.t.now a.q.now a.delta.now a.masks.now a.alpha.now a.a.now c.before.before.before.before.refused.ensures c.before.before.enum_told.given.1 c.before.work.ensures (ne_eqb c.before.work.result 0 c.if1.false) refl
+returns-else-work-eq0 : tie.Need-returns-else-work-eq0
+returns-else-work-eq0 c =
+    let a = c.args in
+    told FIRST a.key (key_slices a.h.now a.x.now a.y.now) a.t.now a.q.now a.delta.now a.masks.now a.alpha.now a.a.now c.refused.ensures c.in-Done.is c.work.ensures (ne_eqb c.work.result 0 c.if-work-eq0.false) refl
 
-returns-3 : tie.Need-returns-3
-returns-3 c =
-    let a = c.before.before.before.before.before.before.before.before.before.before.before.before.before.args in
-    told FIRST a.key (key_slices a.h.now a.x.now a.y.now) a.t.now a.q.now a.delta.now a.masks.now a.alpha.now a.a.now c.before.before.before.refused.ensures c.before.refusal.given.1 refl refl refl
+returns-in-Refused : tie.Need-returns-in-Refused
+returns-in-Refused c =
+    let a = c.args in
+    told FIRST a.key (key_slices a.h.now a.x.now a.y.now) a.t.now a.q.now a.delta.now a.masks.now a.alpha.now a.a.now c.refused.ensures c.in-Refused.is refl refl refl
 
-pub verify-spec : {M : Type 1} → statement M
-verify-spec =
+pub verify_spec : {M : Type 1} → statement M
+verify_spec =
     tie.close
     (tie.spec
     refused-requires
-    enum_told
+    enum_told-1
     work-requires
-    enum-known-refusal
-    returns
-    returns-2
-    returns-3)
+    enum_known-refusal
+    returns-then-work-eq0
+    returns-else-work-eq0
+    returns-in-Refused)

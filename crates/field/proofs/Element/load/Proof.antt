@@ -16,94 +16,94 @@ use borrow.Author.Rules.{rules}
 use Rattle.field.proofs.Element.load.Statement.{statement}
 use Rattle.field.proofs.Element.load.Tie as tie
 
-four-at-requires : tie.Need-four-at-requires
-four-at-requires c κs = omega (arith, c.before.requires, twelve c.before.args.level)
+four_at-a-requires : tie.Need-four_at-a-requires
+four_at-a-requires c κs = omega (arith, c.requires, twelve c.args.level)
 
-add-four-at : tie.Need-overflow-add-four-at
-add-four-at c = search rules
+overflow_add-at : tie.Need-overflow_add-at
+overflow_add-at c = search rules
 
-four-at-requires-2 : tie.Need-four-at-requires-2
-four-at-requires-2 c κs = omega (arith, c.before.before.requires, twelve c.before.before.args.level)
+four_at-b-requires : tie.Need-four_at-b-requires
+four_at-b-requires c κs = omega (arith, c.requires, twelve c.args.level)
 
-add-four-at-2 : tie.Need-overflow-add-four-at-2
-add-four-at-2 c = search rules
+overflow_add-at-2 : tie.Need-overflow_add-at-2
+overflow_add-at-2 c = search rules
 
-four-at-requires-3 : tie.Need-four-at-requires-3
-four-at-requires-3 c κs = omega (arith, c.before.before.before.requires, twelve c.before.before.before.args.level)
+four_at-c-requires : tie.Need-four_at-c-requires
+four_at-c-requires c κs = omega (arith, c.requires, twelve c.args.level)
 
-add-four-at-3 : tie.Need-overflow-add-four-at-3
-add-four-at-3 c = search rules
+overflow_add-at-then-level-eq-SECOND : tie.Need-overflow_add-at-then-level-eq-SECOND
+overflow_add-at-then-level-eq-SECOND c = search rules
 
-four-at-requires-4 : tie.Need-four-at-requires-4
-four-at-requires-4 c κs = omega (arith, c.before.before.before.before.before.requires, ap (λ (l : Level). l.coordinates) (at_second c.if1.true))
+four_at-d-requires : tie.Need-four_at-d-requires
+four_at-d-requires c κs = omega (arith, c.requires, ap (λ (l : Level). l.coordinates) (at_second c.if-level-eq-SECOND.true))
 
-add-four-at-4 : tie.Need-overflow-add-four-at-4
-add-four-at-4 c = search rules
+overflow_add-at-then-level-eq-SECOND-2 : tie.Need-overflow_add-at-then-level-eq-SECOND-2
+overflow_add-at-then-level-eq-SECOND-2 c = search rules
 
-four-at-requires-5 : tie.Need-four-at-requires-5
-four-at-requires-5 c κs = omega (arith, c.before.before.before.before.before.before.requires, ap (λ (l : Level). l.coordinates) (at_second c.before.if1.true))
+four_at-e-requires : tie.Need-four_at-e-requires
+four_at-e-requires c κs = omega (arith, c.requires, ap (λ (l : Level). l.coordinates) (at_second c.if-level-eq-SECOND.true))
 
-add-three-at : tie.Need-overflow-add-three-at
-add-three-at c = search rules
+overflow_add-at-then-level-eq-SECOND-3 : tie.Need-overflow_add-at-then-level-eq-SECOND-3
+overflow_add-at-then-level-eq-SECOND-3 c = search rules
 
-three-at-requires : tie.Need-three-at-requires
-three-at-requires c κs = omega (arith, c.before.before.before.before.before.before.before.requires, ap (λ (l : Level). l.coordinates) (at_second c.before.before.if1.true))
+three_at-f-requires : tie.Need-three_at-f-requires
+three_at-f-requires c κs = omega (arith, c.requires, ap (λ (l : Level). l.coordinates) (at_second c.if-level-eq-SECOND.true))
+
+returns-then-level-eq-SECOND : tie.Need-returns-then-level-eq-SECOND
+unfolding Holds
+returns-then-level-eq-SECOND c = of_second (λ l. (x : (K l).Carrier) → part at l.coordinates s ≡ words l x → Holds l r x) c.if-level-eq-SECOND.true (λ x e i h. by_lanes r (λ k v. v ≡ get_or s (at + k) 0) 6 23 (omega arith) go i h ∙ sym (part_at at 23 s i h) ∙ ap (λ p. get_or p i 0) e)
+  where
+    s : List ℕ
+    s = c.args.s.now
+
+    at : ℕ
+    at = c.args.at
+
+    r : List ℕ
+    r = c.four_at-a.result ∷ c.four_at-b.result ∷ c.four_at-c.result ∷ c.four_at-d.result ∷ c.four_at-e.result ∷ c.three_at-f.result ∷ []
+
+    go : (q j : ℕ) → q < 6 → j < 4 → 4 * q + j < 23 → lane (get_or r q 0) j ≡ get_or s (at + (4 * q + j)) 0
+    go zero j h k l = c.four_at-a.ensures j k ∙ ap (λ n. get_or s n 0) (omega arith)
+    go (suc zero) j h k l = c.four_at-b.ensures j k ∙ ap (λ n. get_or s n 0) (omega arith)
+    go (suc (suc zero)) j h k l = c.four_at-c.ensures j k ∙ ap (λ n. get_or s n 0) (omega arith)
+    go (suc (suc (suc zero))) j h k l = c.four_at-d.ensures j k ∙ ap (λ n. get_or s n 0) (omega arith)
+    go (suc (suc (suc (suc zero)))) j h k l = c.four_at-e.ensures j k ∙ ap (λ n. get_or s n 0) (omega arith)
+    go (suc (suc (suc (suc (suc zero))))) j h k l = c.three_at-f.ensures j (omega arith) ∙ ap (λ n. get_or s n 0) (omega arith)
+    go (suc (suc (suc (suc (suc (suc q)))))) j h k l = absurd (omega arith)
 
 returns : tie.Need-returns
 unfolding Holds
-returns c = of_second (λ l. (x : (K l).Carrier) → part at l.coordinates s ≡ words l x → Holds l r x) c.before.before.before.if1.true (λ x e i h. by_lanes r (λ k v. v ≡ get_or s (at + k) 0) 6 23 (omega arith) go i h ∙ sym (part_at at 23 s i h) ∙ ap (λ p. get_or p i 0) e)
+returns c = of_first (λ l. (x : (K l).Carrier) → part at l.coordinates s ≡ words l x → Holds l r x) c.if-level-eq-SECOND.false (λ x e i h. by_lanes r (λ k v. v ≡ get_or s (at + k) 0) 3 12 (omega arith) go i h ∙ sym (part_at at 12 s i h) ∙ ap (λ p. get_or p i 0) e)
   where
     s : List ℕ
-    s = c.before.before.before.before.before.before.before.before.args.s.now
+    s = c.args.s.now
 
     at : ℕ
-    at = c.before.before.before.before.before.before.before.before.args.at
+    at = c.args.at
 
     r : List ℕ
-    r = c.before.before.before.before.before.before.four-at.result ∷ c.before.before.before.before.before.four-at2.result ∷ c.before.before.before.before.four-at3.result ∷ c.before.before.four-at4.result ∷ c.before.four-at5.result ∷ c.three-at.result ∷ []
-
-    go : (q j : ℕ) → q < 6 → j < 4 → 4 * q + j < 23 → lane (get_or r q 0) j ≡ get_or s (at + (4 * q + j)) 0
-    go zero j h k l = c.before.before.before.before.before.before.four-at.ensures j k ∙ ap (λ n. get_or s n 0) (omega arith)
-    go (suc zero) j h k l = c.before.before.before.before.before.four-at2.ensures j k ∙ ap (λ n. get_or s n 0) (omega arith)
-    go (suc (suc zero)) j h k l = c.before.before.before.before.four-at3.ensures j k ∙ ap (λ n. get_or s n 0) (omega arith)
-    go (suc (suc (suc zero))) j h k l = c.before.before.four-at4.ensures j k ∙ ap (λ n. get_or s n 0) (omega arith)
-    go (suc (suc (suc (suc zero)))) j h k l = c.before.four-at5.ensures j k ∙ ap (λ n. get_or s n 0) (omega arith)
-    go (suc (suc (suc (suc (suc zero))))) j h k l = c.three-at.ensures j (omega arith) ∙ ap (λ n. get_or s n 0) (omega arith)
-    go (suc (suc (suc (suc (suc (suc q)))))) j h k l = absurd (omega arith)
-
-returns-2 : tie.Need-returns-2
-unfolding Holds
-returns-2 c = of_first (λ l. (x : (K l).Carrier) → part at l.coordinates s ≡ words l x → Holds l r x) c.if1.false (λ x e i h. by_lanes r (λ k v. v ≡ get_or s (at + k) 0) 3 12 (omega arith) go i h ∙ sym (part_at at 12 s i h) ∙ ap (λ p. get_or p i 0) e)
-  where
-    s : List ℕ
-    s = c.before.before.before.before.before.args.s.now
-
-    at : ℕ
-    at = c.before.before.before.before.before.args.at
-
-    r : List ℕ
-    r = c.before.before.before.four-at.result ∷ c.before.before.four-at2.result ∷ c.before.four-at3.result ∷ 0 ∷ 0 ∷ 0 ∷ []
+    r = c.four_at-a.result ∷ c.four_at-b.result ∷ c.four_at-c.result ∷ 0 ∷ 0 ∷ 0 ∷ []
 
     go : (q j : ℕ) → q < 3 → j < 4 → 4 * q + j < 12 → lane (get_or r q 0) j ≡ get_or s (at + (4 * q + j)) 0
-    go zero j h k l = c.before.before.before.four-at.ensures j k ∙ ap (λ n. get_or s n 0) (omega arith)
-    go (suc zero) j h k l = c.before.before.four-at2.ensures j k ∙ ap (λ n. get_or s n 0) (omega arith)
-    go (suc (suc zero)) j h k l = c.before.four-at3.ensures j k ∙ ap (λ n. get_or s n 0) (omega arith)
+    go zero j h k l = c.four_at-a.ensures j k ∙ ap (λ n. get_or s n 0) (omega arith)
+    go (suc zero) j h k l = c.four_at-b.ensures j k ∙ ap (λ n. get_or s n 0) (omega arith)
+    go (suc (suc zero)) j h k l = c.four_at-c.ensures j k ∙ ap (λ n. get_or s n 0) (omega arith)
     go (suc (suc (suc q))) j h k l = absurd (omega arith)
 
 pub load_spec : {M : Type 1} → statement M
 load_spec =
     tie.close
     (tie.spec
-    four-at-requires
-    add-four-at
-    four-at-requires-2
-    add-four-at-2
-    four-at-requires-3
-    add-four-at-3
-    four-at-requires-4
-    add-four-at-4
-    four-at-requires-5
-    add-three-at
-    three-at-requires
-    returns
-    returns-2)
+    four_at-a-requires
+    overflow_add-at
+    four_at-b-requires
+    overflow_add-at-2
+    four_at-c-requires
+    overflow_add-at-then-level-eq-SECOND
+    four_at-d-requires
+    overflow_add-at-then-level-eq-SECOND-2
+    four_at-e-requires
+    overflow_add-at-then-level-eq-SECOND-3
+    three_at-f-requires
+    returns-then-level-eq-SECOND
+    returns)

@@ -11,51 +11,51 @@ use borrow.Author.Rules.{rules}
 use Rattle.field.proofs.Element.masked.Statement.{statement}
 use Rattle.field.proofs.Element.masked.Tie as tie
 
-slice-aggregate-add : tie.Need-slice-aggregate-add
-slice-aggregate-add c = search rules
+slice_bounds-add-end : tie.Need-slice_bounds-add-end
+slice_bounds-add-end c = search rules
 
-slice-aggregate-add-2 : tie.Need-slice-aggregate-add-2
-slice-aggregate-add-2 c = search rules
+slice_bounds-add-end-then-level-eq-SECOND : tie.Need-slice_bounds-add-end-then-level-eq-SECOND
+slice_bounds-add-end-then-level-eq-SECOND c = search rules
 
 add-requires : tie.Need-add-requires
 unfolding level_at
-add-requires c κs = (omega arith, omega (arith, long), c.before.before.before.before.requires)
+add-requires c κs = (omega arith, omega (arith, long), c.requires)
   where
-    long : length c.before.before.before.before.args.self.words ≡ 6
+    long : length c.args.self.words ≡ 6
+    long = search rules
+
+returns-then-level-eq-SECOND : tie.Need-returns-then-level-eq-SECOND
+unfolding level_at
+returns-then-level-eq-SECOND c = of_second (λ l. (x : (K l).Carrier) → Holds l c.args.self.words x → Holds l c.add.new.z ((K l).mul (bit (K l) (odd c.args.b)) x)) c.if-level-eq-SECOND.true
+    (λ x h. holds_from_zero second c.add.new.z _ (holds_added second 6 (replicate 6 0) c.args.self.words c.add.new.z c.args.b (K second).zero x (omega arith) c.requires c.add.ensures (holds-zero second 6 6 (omega arith) (omega arith)) h))
+
+slice_bounds-add-end-2 : tie.Need-slice_bounds-add-end-2
+slice_bounds-add-end-2 c = search rules
+
+slice_bounds-add-end-3 : tie.Need-slice_bounds-add-end-3
+slice_bounds-add-end-3 c = search rules
+
+add-requires-2 : tie.Need-add-requires-2
+unfolding level_at
+add-requires-2 c κs = (omega arith, omega (arith, long), c.requires)
+  where
+    long : length c.args.self.words ≡ 6
     long = search rules
 
 returns : tie.Need-returns
 unfolding level_at
-returns c = of_second (λ l. (x : (K l).Carrier) → Holds l c.before.before.before.before.before.before.args.self.words x → Holds l c.before.add.new.0 ((K l).mul (bit (K l) (odd c.before.before.before.before.before.before.args.b)) x)) c.before.before.before.before.if1.true
-    (λ x h. holds_from_zero second c.before.add.new.0 _ (holds_added second 6 (replicate 6 0) c.before.before.before.before.before.before.args.self.words c.before.add.new.0 c.before.before.before.before.before.before.args.b (K second).zero x (omega arith) c.before.before.before.before.before.before.requires c.before.add.ensures (holds-zero second 6 6 (omega arith) (omega arith)) h))
+returns c = of_first (λ l. (x : (K l).Carrier) → Holds l c.args.self.words x → Holds l c.add-2.new.z ((K l).mul (bit (K l) (odd c.args.b)) x)) c.if-level-eq-SECOND.false
+    (λ x h. holds_from_zero first c.add-2.new.z _ (holds_added first 3 (replicate 6 0) c.args.self.words c.add-2.new.z c.args.b (K first).zero x (omega arith) c.requires c.add-2.ensures (holds-zero first 3 6 (omega arith) (omega arith)) h))
 
-slice-aggregate-add-3 : tie.Need-slice-aggregate-add-3
-slice-aggregate-add-3 c = search rules
-
-slice-aggregate-add-4 : tie.Need-slice-aggregate-add-4
-slice-aggregate-add-4 c = search rules
-
-add-requires-2 : tie.Need-add-requires-2
-unfolding level_at
-add-requires-2 c κs = (omega arith, omega (arith, long), c.before.before.before.before.requires)
-  where
-    long : length c.before.before.before.before.args.self.words ≡ 6
-    long = search rules
-
-returns-2 : tie.Need-returns-2
-unfolding level_at
-returns-2 c = of_first (λ l. (x : (K l).Carrier) → Holds l c.before.before.before.before.before.before.args.self.words x → Holds l c.before.add2.new.0 ((K l).mul (bit (K l) (odd c.before.before.before.before.before.before.args.b)) x)) c.before.before.before.before.if1.false
-    (λ x h. holds_from_zero first c.before.add2.new.0 _ (holds_added first 3 (replicate 6 0) c.before.before.before.before.before.before.args.self.words c.before.add2.new.0 c.before.before.before.before.before.before.args.b (K first).zero x (omega arith) c.before.before.before.before.before.before.requires c.before.add2.ensures (holds-zero first 3 6 (omega arith) (omega arith)) h))
-
-pub masked-spec : {M : Type 1} → statement M
-masked-spec =
+pub masked_spec : {M : Type 1} → statement M
+masked_spec =
     tie.close
     (tie.spec
-    slice-aggregate-add
-    slice-aggregate-add-2
+    slice_bounds-add-end
+    slice_bounds-add-end-then-level-eq-SECOND
     add-requires
-    returns
-    slice-aggregate-add-3
-    slice-aggregate-add-4
+    returns-then-level-eq-SECOND
+    slice_bounds-add-end-2
+    slice_bounds-add-end-3
     add-requires-2
-    returns-2)
+    returns)

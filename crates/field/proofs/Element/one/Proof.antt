@@ -15,4 +15,7 @@ unfolding coordinates coordinate lane words word list number F K zeros unit
 returns c = every (λ l. Holds l (1 ∷ 0 ∷ 0 ∷ 0 ∷ 0 ∷ 0 ∷ []) (K l).one) c.args.level (holds-list first (1 ∷ 0 ∷ 0 ∷ 0 ∷ 0 ∷ 0 ∷ []) (K first).one refl) (holds-list second (1 ∷ 0 ∷ 0 ∷ 0 ∷ 0 ∷ 0 ∷ []) (K second).one refl)
 
 pub one_spec : {M : Type 1} → statement M
-one_spec = tie.close (tie.spec returns)
+one_spec =
+    tie.close
+    (tie.spec
+    returns)

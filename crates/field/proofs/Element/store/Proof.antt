@@ -12,49 +12,49 @@ use borrow.Author.Rules.{rules}
 use Rattle.field.proofs.Element.store.Statement.{statement}
 use Rattle.field.proofs.Element.store.Tie as tie
 
-slice-aggregate-store : tie.Need-slice-aggregate-store
-slice-aggregate-store c = search rules
+slice_bounds-store-end : tie.Need-slice_bounds-store-end
+slice_bounds-store-end c = search rules
 
 store-requires : tie.Need-store-requires
 unfolding level_at
-store-requires c κs = (omega (arith, long), subst (λ (l : Level). c.before.before.before.before.before.args.at + l.coordinates ≤ length c.before.before.before.before.before.args.s.now) (at_second c.before.before.if1.true) c.before.before.before.before.before.requires)
+store-requires c κs = (omega (arith, long), subst (λ (l : Level). c.args.at + l.coordinates ≤ length c.args.s.now) (at_second c.if-level-eq-SECOND.true) c.requires)
   where
-    long : length c.before.before.before.before.before.args.self.words ≡ 6
+    long : length c.args.self.words ≡ 6
     long = search rules
 
-slice-aggregate-store-2 : tie.Need-slice-aggregate-store-2
-slice-aggregate-store-2 c = search rules
+slice_bounds-store-end-else-level-eq-SECOND : tie.Need-slice_bounds-store-end-else-level-eq-SECOND
+slice_bounds-store-end-else-level-eq-SECOND c = search rules
 
-store-requires-2 : tie.Need-store-requires-2
+store-requires-else-level-eq-SECOND : tie.Need-store-requires-else-level-eq-SECOND
 unfolding level_at
-store-requires-2 c κs = (omega (arith, long), subst (λ (l : Level). c.before.before.before.before.before.args.at + l.coordinates ≤ length c.before.before.before.before.before.args.s.now) (at_first c.before.before.if1.false) c.before.before.before.before.before.requires)
+store-requires-else-level-eq-SECOND c κs = (omega (arith, long), subst (λ (l : Level). c.args.at + l.coordinates ≤ length c.args.s.now) (at_first c.if-level-eq-SECOND.false) c.requires)
   where
-    long : length c.before.before.before.before.before.args.self.words ≡ 6
+    long : length c.args.self.words ≡ 6
     long = search rules
 
-same_length : tie.Need-same-length
-same_length c = search rules
+shape_of-s-then-level-eq-SECOND : tie.Need-shape_of-s-then-level-eq-SECOND
+shape_of-s-then-level-eq-SECOND c = search rules
 
-returns : tie.Need-returns
+returns-then-level-eq-SECOND : tie.Need-returns-then-level-eq-SECOND
 unfolding level_at
-returns c = of_second (λ l. (x : (K l).Carrier) → Holds l c.before.before.before.before.before.before.before.before.args.self.words x → c.before.before.store.new.1.0 ≡ put c.before.before.before.before.before.before.before.before.args.at (words l x) c.before.before.before.before.before.before.before.before.args.s.now) c.before.before.before.before.before.if1.true c.before.before.store.ensures
+returns-then-level-eq-SECOND c = of_second (λ l. (x : (K l).Carrier) → Holds l c.args.self.words x → c.store.new.s ≡ put c.args.at (words l x) c.args.s.now) c.if-level-eq-SECOND.true c.store.ensures
 
-same-length-2 : tie.Need-same-length-2
-same-length-2 c = search rules
+shape_of-s-else-level-eq-SECOND : tie.Need-shape_of-s-else-level-eq-SECOND
+shape_of-s-else-level-eq-SECOND c = search rules
 
-returns-2 : tie.Need-returns-2
+returns-else-level-eq-SECOND : tie.Need-returns-else-level-eq-SECOND
 unfolding level_at
-returns-2 c = of_first (λ l. (x : (K l).Carrier) → Holds l c.before.before.before.before.before.before.before.before.args.self.words x → c.before.before.store2.new.1.0 ≡ put c.before.before.before.before.before.before.before.before.args.at (words l x) c.before.before.before.before.before.before.before.before.args.s.now) c.before.before.before.before.before.if1.false c.before.before.store2.ensures
+returns-else-level-eq-SECOND c = of_first (λ l. (x : (K l).Carrier) → Holds l c.args.self.words x → c.store-else-level-eq-SECOND.new.s ≡ put c.args.at (words l x) c.args.s.now) c.if-level-eq-SECOND.false c.store-else-level-eq-SECOND.ensures
 
 pub store_spec : {M : Type 1} → statement M
 store_spec =
     tie.close
     (tie.spec
-    slice-aggregate-store
+    slice_bounds-store-end
     store-requires
-    slice-aggregate-store-2
-    store-requires-2
-    same_length
-    returns
-    same-length-2
-    returns-2)
+    slice_bounds-store-end-else-level-eq-SECOND
+    store-requires-else-level-eq-SECOND
+    shape_of-s-then-level-eq-SECOND
+    returns-then-level-eq-SECOND
+    shape_of-s-else-level-eq-SECOND
+    returns-else-level-eq-SECOND)

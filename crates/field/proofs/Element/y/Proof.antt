@@ -15,5 +15,8 @@ returns : tie.Need-returns
 unfolding coordinates coordinate lane words word list number F K Y generator times_x times horner rule zeros unit sum scale push top
 returns c = every (λ l. Holds l (65536 ∷ 0 ∷ 0 ∷ 0 ∷ 0 ∷ 0 ∷ []) (Y l)) c.args.level (holds-list first (65536 ∷ 0 ∷ 0 ∷ 0 ∷ 0 ∷ 0 ∷ []) (Y first) refl) (holds-list second (65536 ∷ 0 ∷ 0 ∷ 0 ∷ 0 ∷ 0 ∷ []) (Y second) refl)
 
-pub y-spec : {M : Type 1} → statement M
-y-spec = tie.close (tie.spec returns)
+pub y_spec : {M : Type 1} → statement M
+y_spec =
+    tie.close
+    (tie.spec
+    returns)

@@ -14,5 +14,8 @@ returns : tie.Need-returns
 unfolding coordinates coordinate lane words word list number F K zeros unit
 returns c = every (λ l. Holds l (0 ∷ 0 ∷ 0 ∷ 0 ∷ 0 ∷ 0 ∷ []) (K l).zero) c.args.level (holds-list first (0 ∷ 0 ∷ 0 ∷ 0 ∷ 0 ∷ 0 ∷ []) (K first).zero refl) (holds-list second (0 ∷ 0 ∷ 0 ∷ 0 ∷ 0 ∷ 0 ∷ []) (K second).zero refl)
 
-pub zero-spec : {M : Type 1} → statement M
-zero-spec = tie.close (tie.spec returns)
+pub zero_spec : {M : Type 1} → statement M
+zero_spec =
+    tie.close
+    (tie.spec
+    returns)

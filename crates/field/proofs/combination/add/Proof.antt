@@ -10,41 +10,41 @@ use borrow.Author.Rules.{rules}
 use Rattle.field.proofs.combination.add.Statement.{statement}
 use Rattle.field.proofs.combination.add.Tie as tie
 
-slice-aggregate-add-parts : tie.Need-slice-aggregate-add-parts
-slice-aggregate-add-parts c = search rules
+slice_bounds-add_parts-end-then-level-eq-SECOND : tie.Need-slice_bounds-add_parts-end-then-level-eq-SECOND
+slice_bounds-add_parts-end-then-level-eq-SECOND c = search rules
 
-add-parts-requires : tie.Need-add-parts-requires
+add_parts-requires : tie.Need-add_parts-requires
 unfolding level_at
-add-parts-requires c κs = (omega (arith, long), search rules)
+add_parts-requires c κs = (omega (arith, long), search rules)
   where
-    long : length c.before.before.before.before.args.x.words ≡ 6
+    long : length c.args.x.words ≡ 6
     long = search rules
 
-slice-aggregate-add-parts-2 : tie.Need-slice-aggregate-add-parts-2
-slice-aggregate-add-parts-2 c = search rules
+slice_bounds-add_parts-end-else-level-eq-SECOND-2 : tie.Need-slice_bounds-add_parts-end-else-level-eq-SECOND-2
+slice_bounds-add_parts-end-else-level-eq-SECOND-2 c = search rules
 
-add-parts-requires-2 : tie.Need-add-parts-requires-2
+add_parts-requires-else-level-eq-SECOND : tie.Need-add_parts-requires-else-level-eq-SECOND
 unfolding level_at
-add-parts-requires-2 c κs = (omega (arith, long), search rules)
+add_parts-requires-else-level-eq-SECOND c κs = (omega (arith, long), search rules)
   where
-    long : length c.before.before.before.before.args.x.words ≡ 6
+    long : length c.args.x.words ≡ 6
     long = search rules
 
-returns : tie.Need-returns
+returns-then-level-eq-SECOND : tie.Need-returns-then-level-eq-SECOND
 unfolding level_at
-returns c = of_second (λ l. (y e : (K l).Carrier) → c.before.before.before.before.before.args.f ≤ l.limit → Combines l c.before.before.before.before.before.args.parts.now y → Holds l c.before.before.before.before.before.args.x.words e → Combines l c.add_parts.new.0 ((K l).add y ((K l).mul ((embed l).map (small l c.before.before.before.before.before.args.f)) e))) c.before.before.before.if1.true (λ y e below. c.add_parts.ensures y e (omega arith))
+returns-then-level-eq-SECOND c = of_second (λ l. (y e : (K l).Carrier) → c.args.f ≤ l.limit → Combines l c.args.parts.now y → Holds l c.args.x.words e → Combines l c.add_parts.new.parts ((K l).add y ((K l).mul ((embed l).map (small l c.args.f)) e))) c.if-level-eq-SECOND.true (λ y e below. c.add_parts.ensures y e (omega arith))
 
-returns-2 : tie.Need-returns-2
+returns-else-level-eq-SECOND : tie.Need-returns-else-level-eq-SECOND
 unfolding level_at
-returns-2 c = of_first (λ l. (y e : (K l).Carrier) → c.before.before.before.before.before.args.f ≤ l.limit → Combines l c.before.before.before.before.before.args.parts.now y → Holds l c.before.before.before.before.before.args.x.words e → Combines l c.add-parts2.new.0 ((K l).add y ((K l).mul ((embed l).map (small l c.before.before.before.before.before.args.f)) e))) c.before.before.before.if1.false (λ y e below. c.add-parts2.ensures y e (omega arith))
+returns-else-level-eq-SECOND c = of_first (λ l. (y e : (K l).Carrier) → c.args.f ≤ l.limit → Combines l c.args.parts.now y → Holds l c.args.x.words e → Combines l c.add_parts-else-level-eq-SECOND.new.parts ((K l).add y ((K l).mul ((embed l).map (small l c.args.f)) e))) c.if-level-eq-SECOND.false (λ y e below. c.add_parts-else-level-eq-SECOND.ensures y e (omega arith))
 
 pub add_spec : {M : Type 1} → statement M
 add_spec =
     tie.close
     (tie.spec
-    slice-aggregate-add-parts
-    add-parts-requires
-    slice-aggregate-add-parts-2
-    add-parts-requires-2
-    returns
-    returns-2)
+    slice_bounds-add_parts-end-then-level-eq-SECOND
+    add_parts-requires
+    slice_bounds-add_parts-end-else-level-eq-SECOND-2
+    add_parts-requires-else-level-eq-SECOND
+    returns-then-level-eq-SECOND
+    returns-else-level-eq-SECOND)

@@ -15,90 +15,90 @@ use Rattle.field.proofs.packed.add.Tie as tie
 fits : (b : ℕ) → b < 2 → b * (2 ^ 64 - 1) < 2 ^ 64
 fits b h = omega arith
 
-abbrev invariant-loop : tie.invariant-loop
-invariant-loop z₀ x b level mask w q₀ z q = (q ≤ w) × (w ≡ room (level_at level)) × (length z ≡ length z₀) × ((i : ℕ) → i < q → get_or z i 0 ≡ bit_xor (get_or z₀ i 0) (bit_and (get_or x i 0) mask)) × ((i : ℕ) → q ≤ i → get_or z i 0 ≡ get_or z₀ i 0)
+abbrev invariant-loop-q : tie.invariant-loop-q
+invariant-loop-q z₀ x b level mask w q₀ z q = (q ≤ w) × (w ≡ room (level_at level)) × (length z ≡ length z₀) × ((i : ℕ) → i < q → get_or z i 0 ≡ bit_xor (get_or z₀ i 0) (bit_and (get_or x i 0) mask)) × ((i : ℕ) → q ≤ i → get_or z i 0 ≡ get_or z₀ i 0)
 
-abbrev decreases-loop : tie.decreases-loop
-decreases-loop z₀ x b level mask w q₀ z q = w - q
+abbrev decreases-loop-q : tie.decreases-loop-q
+decreases-loop-q z₀ x b level mask w q₀ z q = w - q
 
-mul-mask : tie.Need-overflow-mul-mask invariant-loop decreases-loop
-mul-mask c = record { fits = fits c.before.before.args.b c.before.before.requires.2 }
+overflow_mul-mask : tie.Need-overflow_mul-mask invariant-loop-q decreases-loop-q
+overflow_mul-mask c = record { fits = fits c.args.b c.requires.2 }
 
-room-requires : tie.Need-room-requires invariant-loop decreases-loop
-room-requires c κs = search rules
+room-w-requires : tie.Need-room-w-requires invariant-loop-q decreases-loop-q
+room-w-requires c κs = search rules
 
-loop-holds : tie.Need-loop-init invariant-loop decreases-loop
-loop-holds c = (omega arith, c.room.ensures, refl, λ i h. absurd (omega arith), λ i h. refl)
+loop-q-init : tie.Need-loop-q-init invariant-loop-q decreases-loop-q
+loop-q-init c = (omega arith, c.room-w.ensures, refl, λ i h. absurd (omega arith), λ i h. refl)
 
-mul-z : tie.Need-overflow-mul-z invariant-loop decreases-loop
-mul-z c = search rules
+offset_bounds-z-q : tie.Need-offset_bounds-z-q invariant-loop-q decreases-loop-q
+offset_bounds-z-q c = search rules
 
-slice-read-z : tie.Need-slice-read-z invariant-loop decreases-loop
-slice-read-z c = omega (arith, c.before.before.loop.invariant.1, c.before.before.loop.invariant.2, c.before.before.before.before.before.before.requires.0)
+bounds-z-q : tie.Need-bounds-z-q invariant-loop-q decreases-loop-q
+bounds-z-q c = omega (arith, c.loop-q.invariant.1, c.loop-q.invariant.2, c.requires.0)
 
-mul-z-2 : tie.Need-overflow-mul-z-2 invariant-loop decreases-loop
-mul-z-2 c = search rules
+offset_bounds-x-q : tie.Need-offset_bounds-x-q invariant-loop-q decreases-loop-q
+offset_bounds-x-q c = search rules
 
-shared-slice-read-z : tie.Need-shared-slice-read-z invariant-loop decreases-loop
-shared-slice-read-z c = omega (arith, c.before.before.before.loop.invariant.1, c.before.before.before.before.before.before.before.requires.1)
+bounds-x-q : tie.Need-bounds-x-q invariant-loop-q decreases-loop-q
+bounds-x-q c = omega (arith, c.loop-q.invariant.1, c.requires.1)
 
-mul-z-3 : tie.Need-overflow-mul-z-3 invariant-loop decreases-loop
-mul-z-3 c = search rules
+offset_bounds-z-q-in-loop-q : tie.Need-offset_bounds-z-q-in-loop-q invariant-loop-q decreases-loop-q
+offset_bounds-z-q-in-loop-q c = search rules
 
-slice-write-z : tie.Need-slice-write-z invariant-loop decreases-loop
-slice-write-z c = omega (arith, c.before.before.before.loop.invariant.1, c.before.before.before.loop.invariant.2, c.before.before.before.before.before.before.before.requires.0)
+bounds-z-q-in-loop-q : tie.Need-bounds-z-q-in-loop-q invariant-loop-q decreases-loop-q
+bounds-z-q-in-loop-q c = omega (arith, c.loop-q.invariant.1, c.loop-q.invariant.2, c.requires.0)
 
-add-q : tie.Need-overflow-add-q invariant-loop decreases-loop
-add-q c = search rules
+overflow_step-q : tie.Need-overflow_step-q invariant-loop-q decreases-loop-q
+overflow_step-q c = search rules
 
-loop-less : tie.Need-loop-smaller invariant-loop decreases-loop
-loop-less c = search rules
+loop-q-smaller : tie.Need-loop-q-smaller invariant-loop-q decreases-loop-q
+loop-q-smaller c = search rules
 
-loop-again : tie.Need-loop-preserved invariant-loop decreases-loop
-loop-again c =
-    let l = c.before.before.before.loop in (
+loop-q-preserved : tie.Need-loop-q-preserved invariant-loop-q decreases-loop-q
+loop-q-preserved c =
+    let l = c.loop-q in (
       omega arith,
       l.invariant.1,
       simp length-set l.invariant.2,
-      set_more (λ i v. v ≡ bit_xor (get_or z i 0) (bit_and (get_or x i 0) mask)) l.z l.q new (omega (arith, l.invariant.1, l.invariant.2, c.before.before.before.before.before.before.before.requires.0)) l.invariant.3 (ap (λ v. bit_xor v (bit_and (get_or x l.q 0) mask)) (l.invariant.4 l.q (omega arith))),
+      set_more (λ i v. v ≡ bit_xor (get_or z i 0) (bit_and (get_or x i 0) mask)) l.z l.q new (omega (arith, l.invariant.1, l.invariant.2, c.requires.0)) l.invariant.3 (ap (λ v. bit_xor v (bit_and (get_or x l.q 0) mask)) (l.invariant.4 l.q (omega arith))),
       λ i h. get_or-set_other l.z l.q i new 0 (omega arith) ∙ l.invariant.4 i (omega arith),
     )
   where
     z : List ℕ
-    z = c.before.before.before.before.before.before.before.args.z.now
+    z = c.args.z.now
 
     x : List ℕ
-    x = c.before.before.before.before.before.before.before.args.x.now
+    x = c.args.x.now
 
     mask : ℕ
-    mask = c.before.before.before.before.before.before.before.args.b * (2 ^ 64 - 1)
+    mask = c.args.b * (2 ^ 64 - 1)
 
     new : ℕ
-    new = bit_xor (get_or c.before.before.before.loop.z c.before.before.before.loop.q 0) (bit_and (get_or x c.before.before.before.loop.q 0) mask)
+    new = bit_xor (get_or c.loop-q.z c.loop-q.q 0) (bit_and (get_or x c.loop-q.q 0) mask)
 
-same_length : tie.Need-same-length invariant-loop decreases-loop
-same_length c = c.before.loop.invariant.2
+shape_of-z : tie.Need-shape_of-z invariant-loop-q decreases-loop-q
+shape_of-z c = c.loop-q.invariant.2
 
-returns : tie.Need-returns invariant-loop decreases-loop
-returns c i h = c.before.loop.invariant.3 i (omega (arith, c.before.loop.invariant.1))
+returns : tie.Need-returns invariant-loop-q decreases-loop-q
+returns c i h = c.loop-q.invariant.3 i (omega (arith, c.loop-q.invariant.1))
 
 pub add_spec : {M : Type 1} → statement M
 add_spec =
     tie.close
     (tie.spec
-    invariant-loop
-    decreases-loop
-    mul-mask
-    room-requires
-    loop-holds
-    mul-z
-    slice-read-z
-    mul-z-2
-    shared-slice-read-z
-    mul-z-3
-    slice-write-z
-    add-q
-    loop-less
-    loop-again
-    same_length
+    invariant-loop-q
+    decreases-loop-q
+    overflow_mul-mask
+    room-w-requires
+    loop-q-init
+    offset_bounds-z-q
+    bounds-z-q
+    offset_bounds-x-q
+    bounds-x-q
+    offset_bounds-z-q-in-loop-q
+    bounds-z-q-in-loop-q
+    overflow_step-q
+    loop-q-smaller
+    loop-q-preserved
+    shape_of-z
     returns)

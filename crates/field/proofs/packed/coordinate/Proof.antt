@@ -7,25 +7,31 @@ use borrow.Author.Rules.{rules}
 use Rattle.field.proofs.packed.coordinate.Statement.{statement}
 use Rattle.field.proofs.packed.coordinate.Tie as tie
 
-mul-result : tie.Need-overflow-mul-result
-mul-result c = search rules
+offset_bounds-ws-i : tie.Need-offset_bounds-ws-i
+offset_bounds-ws-i c = search rules
 
-shared-slice-read-result : tie.Need-shared-slice-read-result
-shared-slice-read-result c = omega (arith, c.before.requires)
+bounds-ws-i : tie.Need-bounds-ws-i
+bounds-ws-i c = omega (arith, c.requires)
 
-mul-result-2 : tie.Need-overflow-mul-result-2
-mul-result-2 c = search rules
+overflow_mul-result : tie.Need-overflow_mul-result
+overflow_mul-result c = search rules
 
-shr-result : tie.Need-overflow-shr-result
-shr-result c = search rules
+overflow_shr-result : tie.Need-overflow_shr-result
+overflow_shr-result c = search rules
 
-cast-result : tie.Need-overflow-cast-result
-cast-result c = search rules
+overflow_cast-result : tie.Need-overflow_cast-result
+overflow_cast-result c = search rules
 
 returns : tie.Need-returns
-returns c = sym (coordinate-is c.before.args.ws.now c.before.args.i ∙ lane_shift (get_or c.before.args.ws.now (c.before.args.i / 4) 0) (c.before.args.i % 4))
+returns c = sym (coordinate-is c.args.ws.now c.args.i ∙ lane_shift (get_or c.args.ws.now (c.args.i / 4) 0) (c.args.i % 4))
 
-pub coordinate-spec : {M : Type 1} → statement M
-coordinate-spec =
+pub coordinate_spec : {M : Type 1} → statement M
+coordinate_spec =
     tie.close
-    (tie.spec mul-result shared-slice-read-result mul-result-2 shr-result cast-result returns)
+    (tie.spec
+    offset_bounds-ws-i
+    bounds-ws-i
+    overflow_mul-result
+    overflow_shr-result
+    overflow_cast-result
+    returns)

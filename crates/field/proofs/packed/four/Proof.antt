@@ -10,14 +10,14 @@ use borrow.Author.Rules.{rules}
 use Rattle.field.proofs.packed.four.Statement.{statement}
 use Rattle.field.proofs.packed.four.Tie as tie
 
-add-result : tie.Need-overflow-add-result
-add-result c = search rules
+overflow_add-result : tie.Need-overflow_add-result
+overflow_add-result c = search rules
 
-add-result-2 : tie.Need-overflow-add-result-2
-add-result-2 c = search rules
+overflow_add-result-2 : tie.Need-overflow_add-result-2
+overflow_add-result-2 c = search rules
 
-add-result-3 : tie.Need-overflow-add-result-3
-add-result-3 c = search rules
+overflow_add-result-3 : tie.Need-overflow_add-result-3
+overflow_add-result-3 c = search rules
 
 join : (a b c d : ℕ) → b < 65536 → c < 65536 → d < 65536 → a + b * 65536 % 18446744073709551616 + c * 4294967296 % 18446744073709551616 + d * 281474976710656 % 18446744073709551616 ≡ ((d * 65536 + c) * 65536 + b) * 65536 + a
 join a b c d hb hc hd = ap₂ ◌+◌ (ap₂ ◌+◌ (ap (λ n. a + n) (mod-eq_of_lt (omega arith))) (mod-eq_of_lt (omega arith))) (mod-eq_of_lt (omega arith)) ∙ omega arith
@@ -34,5 +34,11 @@ returns c j l =
     let a = c.args in
     ap (λ x. lane x j) (join a.a a.b a.c a.d c.ranges.b.fits c.ranges.c.fits c.ranges.d.fits) ∙ lanes a.a a.b a.c a.d j c.ranges.a.fits c.ranges.b.fits c.ranges.c.fits c.ranges.d.fits l
 
-pub four-spec : {M : Type 1} → statement M
-four-spec = tie.close (tie.spec add-result add-result-2 add-result-3 returns)
+pub four_spec : {M : Type 1} → statement M
+four_spec =
+    tie.close
+    (tie.spec
+    overflow_add-result
+    overflow_add-result-2
+    overflow_add-result-3
+    returns)

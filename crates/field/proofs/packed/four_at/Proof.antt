@@ -8,38 +8,38 @@ use borrow.Author.Rules.{rules}
 use Rattle.field.proofs.packed.four_at.Statement.{statement}
 use Rattle.field.proofs.packed.four_at.Tie as tie
 
-mul-four : tie.Need-overflow-mul-four
-mul-four c = search rules
+offset_bounds-s-i : tie.Need-offset_bounds-s-i
+offset_bounds-s-i c = search rules
 
-shared-slice-read-four : tie.Need-shared-slice-read-four
-shared-slice-read-four c = search rules
+bounds-s-i : tie.Need-bounds-s-i
+bounds-s-i c = search rules
 
-add-four : tie.Need-overflow-add-four
-add-four c = search rules
+overflow_add-i : tie.Need-overflow_add-i
+overflow_add-i c = search rules
 
-mul-four-2 : tie.Need-overflow-mul-four-2
-mul-four-2 c = search rules
+offset_bounds-s-i-2 : tie.Need-offset_bounds-s-i-2
+offset_bounds-s-i-2 c = search rules
 
-shared-slice-read-four-2 : tie.Need-shared-slice-read-four-2
-shared-slice-read-four-2 c = search rules
+bounds-s-i-2 : tie.Need-bounds-s-i-2
+bounds-s-i-2 c = search rules
 
-add-four-2 : tie.Need-overflow-add-four-2
-add-four-2 c = search rules
+overflow_add-i-2 : tie.Need-overflow_add-i-2
+overflow_add-i-2 c = search rules
 
-mul-four-3 : tie.Need-overflow-mul-four-3
-mul-four-3 c = search rules
+offset_bounds-s-i-3 : tie.Need-offset_bounds-s-i-3
+offset_bounds-s-i-3 c = search rules
 
-shared-slice-read-four-3 : tie.Need-shared-slice-read-four-3
-shared-slice-read-four-3 c = search rules
+bounds-s-i-3 : tie.Need-bounds-s-i-3
+bounds-s-i-3 c = search rules
 
-add-four-3 : tie.Need-overflow-add-four-3
-add-four-3 c = search rules
+overflow_add-i-3 : tie.Need-overflow_add-i-3
+overflow_add-i-3 c = search rules
 
-mul-four-4 : tie.Need-overflow-mul-four-4
-mul-four-4 c = search rules
+offset_bounds-s-i-4 : tie.Need-offset_bounds-s-i-4
+offset_bounds-s-i-4 c = search rules
 
-shared-slice-read-four-4 : tie.Need-shared-slice-read-four-4
-shared-slice-read-four-4 c = search rules
+bounds-s-i-4 : tie.Need-bounds-s-i-4
+bounds-s-i-4 c = search rules
 
 four-requires : tie.Need-four-requires
 four-requires c κs = search rules
@@ -48,10 +48,10 @@ returns : tie.Need-returns
 returns c j l = c.four.ensures j l ∙ place j l
   where
     s : List ℕ
-    s = c.before.before.before.before.before.before.args.s.now
+    s = c.args.s.now
 
     i : ℕ
-    i = c.before.before.before.before.before.before.args.i
+    i = c.args.i
 
     place : (j : ℕ) → j < 4 → get_or (get_or s i 0 ∷ get_or s (i + 1) 0 ∷ get_or s (i + 2) 0 ∷ get_or s (i + 3) 0 ∷ []) j 0 ≡ get_or s (i + j) 0
     place zero l = ap (λ k. get_or s k 0) (sym (add-zero i))
@@ -60,20 +60,20 @@ returns c j l = c.four.ensures j l ∙ place j l
     place (suc (suc (suc zero))) l = refl
     place (suc (suc (suc (suc j)))) l = absurd (omega arith)
 
-pub four-at-spec : {M : Type 1} → statement M
-four-at-spec =
+pub four_at_spec : {M : Type 1} → statement M
+four_at_spec =
     tie.close
     (tie.spec
-    mul-four
-    shared-slice-read-four
-    add-four
-    mul-four-2
-    shared-slice-read-four-2
-    add-four-2
-    mul-four-3
-    shared-slice-read-four-3
-    add-four-3
-    mul-four-4
-    shared-slice-read-four-4
+    offset_bounds-s-i
+    bounds-s-i
+    overflow_add-i
+    offset_bounds-s-i-2
+    bounds-s-i-2
+    overflow_add-i-2
+    offset_bounds-s-i-3
+    bounds-s-i-3
+    overflow_add-i-3
+    offset_bounds-s-i-4
+    bounds-s-i-4
     four-requires
     returns)

@@ -10,19 +10,25 @@ use Rattle.field.proofs.packed.multiples.Statement.{statement}
 use Rattle.field.proofs.packed.multiples.Tie as tie
 
 add-requires : tie.Need-add-requires
-add-requires c κs = (omega (arith, c.before.before.before.requires.0, room_pos c.before.before.before.args.level, inside c.before.before.before.args.level 0 (room (level_at c.before.before.before.args.level) - 1) (bounded c.before.before.before.args.level).width (omega (arith, room_pos c.before.before.before.args.level))), c.before.before.before.requires.1, omega arith)
+add-requires c κs = (omega (arith, c.requires.0, room_pos c.args.level, inside c.args.level 0 (room (level_at c.args.level) - 1) (bounded c.args.level).width (omega (arith, room_pos c.args.level))), c.requires.1, omega arith)
 
 fill-requires : tie.Need-fill-requires
-fill-requires c κs = omega (arith, c.before.before.before.add.auto.0, c.before.before.before.before.before.before.before.requires.0)
+fill-requires c κs = omega (arith, c.add.auto.z, c.requires.0)
 
-same_length : tie.Need-same-length
-same_length c = search rules
+shape_of-table : tie.Need-shape_of-table
+shape_of-table c = search rules
 
 returns : tie.Need-returns
 returns c x hz hx =
-    let a = c.before.before.before.before.before.before.before.before.before.before.args in
+    let a = c.args in
     let m = level_at a.level in
-    c.before.before.fill.ensures x (holds_from_zero m c.before.before.before.before.before.before.add.new.0 x (holds-plus m (room m) a.table.now a.ws.now c.before.before.before.before.before.before.add.new.0 (K m).zero x (omega arith) c.before.before.before.before.before.before.add.ensures hz hx))
+    c.fill.ensures x (holds_from_zero m c.add.new.z x (holds-plus m (room m) a.table.now a.ws.now c.add.new.z (K m).zero x (omega arith) c.add.ensures hz hx))
 
-pub multiples-spec : {M : Type 1} → statement M
-multiples-spec = tie.close (tie.spec add-requires fill-requires same_length returns)
+pub multiples_spec : {M : Type 1} → statement M
+multiples_spec =
+    tie.close
+    (tie.spec
+    add-requires
+    fill-requires
+    shape_of-table
+    returns)

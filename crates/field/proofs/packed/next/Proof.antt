@@ -25,89 +25,89 @@ step : (l : Level) (sum part : List ℕ) (i u r v : ℕ) → 1 < l.width → u �
 step l sum part i u r v wide same e z x h j hj hc = ap (λ y. lane y j) e ∙ lane_xor (get_or part i 0) r j
     ∙ ap (bit_xor (lane (get_or part i 0) j)) (lane-next l x 0 i u r wide (subst (Lane l x 1 i) (sym same) (holds-lane l sum x h i)) z j hj hc ∙ sym (words-scaled l 2 x (4 * i + j) hc))
 
-abbrev invariant-loop : tie.invariant-loop
-invariant-loop sum₀ parts at level w q₀ sum q = (q ≤ w) × (w ≡ room (level_at level)) × (length sum ≡ length sum₀)
+abbrev invariant-loop-q : tie.invariant-loop-q
+invariant-loop-q sum₀ parts at level w q₀ sum q = (q ≤ w) × (w ≡ room (level_at level)) × (length sum ≡ length sum₀)
     × ((i : ℕ) → i < q → Next (level_at level) sum₀ (drop at parts) i (get_or sum i 0)) × ((i : ℕ) → q ≤ i → get_or sum i 0 ≡ get_or sum₀ i 0)
 
-abbrev decreases-loop : tie.decreases-loop
-decreases-loop sum₀ parts at level w q₀ sum q = w - q
+abbrev decreases-loop-q : tie.decreases-loop-q
+decreases-loop-q sum₀ parts at level w q₀ sum q = w - q
 
-room-requires : tie.Need-room-requires invariant-loop decreases-loop
-room-requires c κs = search rules
+room-w-requires : tie.Need-room-w-requires invariant-loop-q decreases-loop-q
+room-w-requires c κs = search rules
 
-loop-holds : tie.Need-loop-init invariant-loop decreases-loop
-loop-holds c = (omega arith, c.room.ensures, refl, λ i h. absurd (omega arith), λ i h. refl)
+loop-q-init : tie.Need-loop-q-init invariant-loop-q decreases-loop-q
+loop-q-init c = (omega arith, c.room-w.ensures, refl, λ i h. absurd (omega arith), λ i h. refl)
 
-add-sum : tie.Need-overflow-add-sum invariant-loop decreases-loop
-add-sum c = omega (arith, c.before.loop.invariant.1, c.before.before.before.before.before.requires.1)
+overflow_add-sum : tie.Need-overflow_add-sum invariant-loop-q decreases-loop-q
+overflow_add-sum c = omega (arith, c.loop-q.invariant.1, c.requires.1)
 
-mul-sum : tie.Need-overflow-mul-sum invariant-loop decreases-loop
-mul-sum c = search rules
+offset_bounds-parts-at : tie.Need-offset_bounds-parts-at invariant-loop-q decreases-loop-q
+offset_bounds-parts-at c = search rules
 
-shared-slice-read-sum : tie.Need-shared-slice-read-sum invariant-loop decreases-loop
-shared-slice-read-sum c = omega (arith, c.before.before.loop.invariant.1, c.before.before.before.before.before.before.requires.1)
+bounds-parts-at : tie.Need-bounds-parts-at invariant-loop-q decreases-loop-q
+bounds-parts-at c = omega (arith, c.loop-q.invariant.1, c.requires.1)
 
-mul-times-z : tie.Need-overflow-mul-times-z invariant-loop decreases-loop
-mul-times-z c = search rules
+offset_bounds-sum-q : tie.Need-offset_bounds-sum-q invariant-loop-q decreases-loop-q
+offset_bounds-sum-q c = search rules
 
-slice-read-times-z : tie.Need-slice-read-times-z invariant-loop decreases-loop
-slice-read-times-z c = omega (arith, c.before.before.before.loop.invariant.1, c.before.before.before.loop.invariant.2, c.before.before.before.before.before.before.before.requires.0)
+bounds-sum-q : tie.Need-bounds-sum-q invariant-loop-q decreases-loop-q
+bounds-sum-q c = omega (arith, c.loop-q.invariant.1, c.loop-q.invariant.2, c.requires.0)
 
-times-z-requires : tie.Need-times-z-requires invariant-loop decreases-loop
-times-z-requires c κs = search rules
+times_z-requires : tie.Need-times_z-requires invariant-loop-q decreases-loop-q
+times_z-requires c κs = search rules
 
-mul-sum-2 : tie.Need-overflow-mul-sum-2 invariant-loop decreases-loop
-mul-sum-2 c = search rules
+offset_bounds-sum-q-in-loop-q : tie.Need-offset_bounds-sum-q-in-loop-q invariant-loop-q decreases-loop-q
+offset_bounds-sum-q-in-loop-q c = search rules
 
-slice-write-sum : tie.Need-slice-write-sum invariant-loop decreases-loop
-slice-write-sum c = omega (arith, c.before.before.before.before.loop.invariant.1, c.before.before.before.before.loop.invariant.2, c.before.before.before.before.before.before.before.before.requires.0)
+bounds-sum-q-in-loop-q : tie.Need-bounds-sum-q-in-loop-q invariant-loop-q decreases-loop-q
+bounds-sum-q-in-loop-q c = omega (arith, c.loop-q.invariant.1, c.loop-q.invariant.2, c.requires.0)
 
-add-q : tie.Need-overflow-add-q invariant-loop decreases-loop
-add-q c = search rules
+overflow_step-q : tie.Need-overflow_step-q invariant-loop-q decreases-loop-q
+overflow_step-q c = search rules
 
-loop-less : tie.Need-loop-smaller invariant-loop decreases-loop
-loop-less c = search rules
+loop-q-smaller : tie.Need-loop-q-smaller invariant-loop-q decreases-loop-q
+loop-q-smaller c = search rules
 
-loop-again : tie.Need-loop-preserved invariant-loop decreases-loop
-loop-again c =
-    let l = c.before.before.before.before.loop in
-    let a = c.before.before.before.before.before.before.before.before.args in
-    let new = bit_xor (get_or a.parts.now (a.at + l.q) 0) c.times-z.result in (
+loop-q-preserved : tie.Need-loop-q-preserved invariant-loop-q decreases-loop-q
+loop-q-preserved c =
+    let l = c.loop-q in
+    let a = c.args in
+    let new = bit_xor (get_or a.parts.now (a.at + l.q) 0) c.times_z.result in (
       omega arith,
       l.invariant.1,
       simp length-set l.invariant.2,
-      set_more (Next (level_at a.level) a.sum.now (drop a.at a.parts.now)) l.sum l.q new (omega (arith, l.invariant.1, l.invariant.2, c.before.before.before.before.before.before.before.before.requires.0)) l.invariant.3
-          (λ x h. step (level_at a.level) a.sum.now (drop a.at a.parts.now) l.q (get_or l.sum l.q 0) c.times-z.result new (bounded a.level).digits (l.invariant.4 l.q (omega arith)) (ap (λ v. bit_xor v c.times-z.result) (sym (get_or-drop a.at a.parts.now l.q 0))) c.times-z.ensures x h),
+      set_more (Next (level_at a.level) a.sum.now (drop a.at a.parts.now)) l.sum l.q new (omega (arith, l.invariant.1, l.invariant.2, c.requires.0)) l.invariant.3
+          (λ x h. step (level_at a.level) a.sum.now (drop a.at a.parts.now) l.q (get_or l.sum l.q 0) c.times_z.result new (bounded a.level).digits (l.invariant.4 l.q (omega arith)) (ap (λ v. bit_xor v c.times_z.result) (sym (get_or-drop a.at a.parts.now l.q 0))) c.times_z.ensures x h),
       λ i h. get_or-set_other l.sum l.q i new 0 (omega arith) ∙ l.invariant.4 i (omega arith),
     )
 
-same_length : tie.Need-same-length invariant-loop decreases-loop
-same_length c = c.before.loop.invariant.2
+shape_of-sum : tie.Need-shape_of-sum invariant-loop-q decreases-loop-q
+shape_of-sum c = c.loop-q.invariant.2
 
-returns : tie.Need-returns invariant-loop decreases-loop
+returns : tie.Need-returns invariant-loop-q decreases-loop-q
 returns c x p hx hp =
-    let a = c.before.before.before.before.before.args in
+    let a = c.args in
     let m = level_at a.level in
-    holds-sum m (room m) (drop a.at a.parts.now) c.before.loop.sum p ((K m).mul ((embed m).map (small m 2)) x) (omega arith) (λ q j hq hj hc. c.before.loop.invariant.3 q (omega (arith, c.before.loop.invariant.1)) x hx j hj hc) hp
+    holds-sum m (room m) (drop a.at a.parts.now) c.loop-q.sum p ((K m).mul ((embed m).map (small m 2)) x) (omega arith) (λ q j hq hj hc. c.loop-q.invariant.3 q (omega (arith, c.loop-q.invariant.1)) x hx j hj hc) hp
 
-pub next-spec : {M : Type 1} → statement M
-next-spec =
+pub next_spec : {M : Type 1} → statement M
+next_spec =
     tie.close
     (tie.spec
-    invariant-loop
-    decreases-loop
-    room-requires
-    loop-holds
-    add-sum
-    mul-sum
-    shared-slice-read-sum
-    mul-times-z
-    slice-read-times-z
-    times-z-requires
-    mul-sum-2
-    slice-write-sum
-    add-q
-    loop-less
-    loop-again
-    same_length
+    invariant-loop-q
+    decreases-loop-q
+    room-w-requires
+    loop-q-init
+    overflow_add-sum
+    offset_bounds-parts-at
+    bounds-parts-at
+    offset_bounds-sum-q
+    bounds-sum-q
+    times_z-requires
+    offset_bounds-sum-q-in-loop-q
+    bounds-sum-q-in-loop-q
+    overflow_step-q
+    loop-q-smaller
+    loop-q-preserved
+    shape_of-sum
     returns)

@@ -11,98 +11,98 @@ use borrow.Author.Rules.{rules}
 use Rattle.field.proofs.packed.product.Statement.{statement}
 use Rattle.field.proofs.packed.product.Tie as tie
 
-abbrev invariant-loop : tie.invariant-loop
-invariant-loop table other level z₀ i₀ z i = (i ≤ (level_at level).coordinates) × (length z ≡ 6)
+abbrev invariant-loop-i : tie.invariant-loop-i
+invariant-loop-i table other level z₀ i₀ z i = (i ≤ (level_at level).coordinates) × (length z ≡ 6)
     × ((x y : (K (level_at level)).Carrier) → Tabulates (level_at level) table x → Holds (level_at level) other y → Holds (level_at level) z (rest (level_at level) y x i))
 
-abbrev decreases-loop : tie.decreases-loop
-decreases-loop table other level z₀ i₀ z i = i
+abbrev decreases-loop-i : tie.decreases-loop-i
+decreases-loop-i table other level z₀ i₀ z i = i
 
-of-requires : tie.Need-of-requires invariant-loop decreases-loop
-of-requires c κs = search rules
+of-l-requires : tie.Need-of-l-requires invariant-loop-i decreases-loop-i
+of-l-requires c κs = search rules
 
-loop-holds : tie.Need-loop-init invariant-loop decreases-loop
-loop-holds c =
-    let m = level_at c.before.before.before.args.level in
-    let e : c.of.result.coordinates ≡ m.coordinates = ap (λ (l : Level). l.coordinates) c.of.ensures in
-    (omega (arith, e), refl, λ x y ht hy. subst (Holds m (replicate 6 0)) (sym (ap (rest m y x) e ∙ rest-start m y x)) (holds-zero m (room m) 6 (omega arith) (room_most c.before.before.before.args.level)))
+loop-i-init : tie.Need-loop-i-init invariant-loop-i decreases-loop-i
+loop-i-init c =
+    let m = level_at c.args.level in
+    let e : c.of-l.result.coordinates ≡ m.coordinates = ap (λ (l : Level). l.coordinates) c.of-l.ensures in
+    (omega (arith, e), refl, λ x y ht hy. subst (Holds m (replicate 6 0)) (sym (ap (rest m y x) e ∙ rest-start m y x)) (holds-zero m (room m) 6 (omega arith) (room_most c.args.level)))
 
-sub-i : tie.Need-overflow-sub-i invariant-loop decreases-loop
-sub-i c = search rules
+overflow_sub-i : tie.Need-overflow_sub-i invariant-loop-i decreases-loop-i
+overflow_sub-i c = search rules
 
-slice-aggregate-times-y : tie.Need-slice-aggregate-times-y invariant-loop decreases-loop
-slice-aggregate-times-y c = search rules
+slice_bounds-times_y-end : tie.Need-slice_bounds-times_y-end invariant-loop-i decreases-loop-i
+slice_bounds-times_y-end c = search rules
 
-times-y-requires : tie.Need-times-y-requires invariant-loop decreases-loop
-times-y-requires c κs = omega (arith, c.before.before.loop.invariant.1, room_most c.before.before.before.before.before.before.args.level)
+times_y-requires : tie.Need-times_y-requires invariant-loop-i decreases-loop-i
+times_y-requires c κs = omega (arith, c.loop-i.invariant.1, room_most c.args.level)
 
-slice-aggregate-scaled : tie.Need-slice-aggregate-scaled invariant-loop decreases-loop
-slice-aggregate-scaled c = search rules
+slice_bounds-scaled-end : tie.Need-slice_bounds-scaled-end invariant-loop-i decreases-loop-i
+slice_bounds-scaled-end c = search rules
 
-coordinate-requires : tie.Need-coordinate-requires invariant-loop decreases-loop
-coordinate-requires c κs = omega (arith, c.before.before.before.before.before.loop.invariant.0, c.before.before.before.before.before.before.before.before.before.requires.1)
+coordinate-requires : tie.Need-coordinate-requires invariant-loop-i decreases-loop-i
+coordinate-requires c κs = omega (arith, c.loop-i.invariant.0, c.requires.1)
 
-scaled-requires : tie.Need-scaled-requires invariant-loop decreases-loop
-scaled-requires c κs = (room_most c.before.before.before.before.before.before.before.before.before.before.args.level, c.before.before.before.before.before.before.before.before.before.before.requires.0)
+scaled-requires : tie.Need-scaled-requires invariant-loop-i decreases-loop-i
+scaled-requires c κs = (room_most c.args.level, c.requires.0)
 
-slice-aggregate-add : tie.Need-slice-aggregate-add invariant-loop decreases-loop
-slice-aggregate-add c = search rules
+slice_bounds-add-end : tie.Need-slice_bounds-add-end invariant-loop-i decreases-loop-i
+slice_bounds-add-end c = search rules
 
-slice-aggregate-add-2 : tie.Need-slice-aggregate-add-2 invariant-loop decreases-loop
-slice-aggregate-add-2 c = search rules
+slice_bounds-add-end-in-loop-i : tie.Need-slice_bounds-add-end-in-loop-i invariant-loop-i decreases-loop-i
+slice_bounds-add-end-in-loop-i c = search rules
 
-add-requires : tie.Need-add-requires invariant-loop decreases-loop
-add-requires c κs = (omega (arith, c.before.before.before.before.before.before.before.times-y.auto.0, c.before.before.before.before.before.before.before.before.before.before.loop.invariant.1, room_most c.before.before.before.before.before.before.before.before.before.before.before.before.before.before.args.level), omega (arith, c.before.before.before.scaled.auto.0, room_most c.before.before.before.before.before.before.before.before.before.before.before.before.before.before.args.level), omega arith)
+add-requires : tie.Need-add-requires invariant-loop-i decreases-loop-i
+add-requires c κs = (omega (arith, c.times_y.auto.z, c.loop-i.invariant.1, room_most c.args.level), omega (arith, c.scaled.auto.z, room_most c.args.level), omega arith)
 
-loop-less : tie.Need-loop-smaller invariant-loop decreases-loop
-loop-less c = search rules
+loop-i-smaller : tie.Need-loop-i-smaller invariant-loop-i decreases-loop-i
+loop-i-smaller c = search rules
 
-loop-again : tie.Need-loop-preserved invariant-loop decreases-loop
-loop-again c =
-    let l = c.before.before.before.before.before.before.before.before.before.before.before.before.loop in
-    let f = c.before.before.before.before.before.before.coordinate in
-    let m = level_at c.before.before.before.before.before.before.before.before.before.before.before.before.before.before.before.before.args.level in
-    let other = c.before.before.before.before.before.before.before.before.before.before.before.before.before.before.before.before.args.other.now in (
+loop-i-preserved : tie.Need-loop-i-preserved invariant-loop-i decreases-loop-i
+loop-i-preserved c =
+    let l = c.loop-i in
+    let f = c.coordinate in
+    let m = level_at c.args.level in
+    let other = c.args.other.now in (
       omega (arith, l.invariant.0),
-      c.before.add.auto.0 ∙ c.before.before.before.before.before.before.before.before.before.times-y.auto.0 ∙ l.invariant.1,
-      λ x y ht hy. turn m (l.i - 1) f.result other c.before.add.new.0 x y (omega (arith, l.invariant.0)) f.ensures hy
-          (subst (Holds m c.before.add.new.0) ((K m).add_comm _ _) (holds-plus m (room m) c.before.before.before.before.before.before.before.before.before.times-y.new.0 c.before.before.before.before.before.scaled.new.0 c.before.add.new.0 _ _ (omega arith) c.before.add.ensures
-          (c.before.before.before.before.before.before.before.before.before.times-y.ensures _ (subst (λ i. Holds m l.z (rest m y x i)) again (l.invariant.2 x y ht hy)))
-          (c.before.before.before.before.before.scaled.ensures x (turn_lt m (l.i - 1) f.result other y (omega (arith, l.invariant.0)) f.ensures hy) ht))),
+      c.add.auto.z ∙ c.times_y.auto.z ∙ l.invariant.1,
+      λ x y ht hy. turn m (l.i - 1) f.result other c.add.new.z x y (omega (arith, l.invariant.0)) f.ensures hy
+          (subst (Holds m c.add.new.z) ((K m).add_comm _ _) (holds-plus m (room m) c.times_y.new.z c.scaled.new.z c.add.new.z _ _ (omega arith) c.add.ensures
+          (c.times_y.ensures _ (subst (λ i. Holds m l.z (rest m y x i)) again (l.invariant.2 x y ht hy)))
+          (c.scaled.ensures x (turn_lt m (l.i - 1) f.result other y (omega (arith, l.invariant.0)) f.ensures hy) ht))),
     )
   where
-    again : c.before.before.before.before.before.before.before.before.before.before.before.before.loop.i ≡ suc (c.before.before.before.before.before.before.before.before.before.before.before.before.loop.i - 1)
+    again : c.loop-i.i ≡ suc (c.loop-i.i - 1)
     again = omega arith
 
-returns : tie.Need-returns invariant-loop decreases-loop
-returns c x y ht hy = subst (Holds m c.before.loop.z) path (c.before.loop.invariant.2 x y ht hy)
+returns : tie.Need-returns invariant-loop-i decreases-loop-i
+returns c x y ht hy = subst (Holds m c.loop-i.z) path (c.loop-i.invariant.2 x y ht hy)
   where
     m : Level
-    m = level_at c.before.before.before.before.before.args.level
+    m = level_at c.args.level
 
-    done : c.before.loop.i ≡ 0
+    done : c.loop-i.i ≡ 0
     done = omega arith
 
-    path : rest m y x c.before.loop.i ≡ (K m).mul x y
+    path : rest m y x c.loop-i.i ≡ (K m).mul x y
     path = ap (rest m y x) done ∙ rest_end m y x ∙ (K m).mul_comm y x
 
-pub product-spec : {M : Type 1} → statement M
-product-spec =
+pub product_spec : {M : Type 1} → statement M
+product_spec =
     tie.close
     (tie.spec
-    invariant-loop
-    decreases-loop
-    of-requires
-    loop-holds
-    sub-i
-    slice-aggregate-times-y
-    times-y-requires
-    slice-aggregate-scaled
+    invariant-loop-i
+    decreases-loop-i
+    of-l-requires
+    loop-i-init
+    overflow_sub-i
+    slice_bounds-times_y-end
+    times_y-requires
+    slice_bounds-scaled-end
     coordinate-requires
     scaled-requires
-    slice-aggregate-add
-    slice-aggregate-add-2
+    slice_bounds-add-end
+    slice_bounds-add-end-in-loop-i
     add-requires
-    loop-less
-    loop-again
+    loop-i-smaller
+    loop-i-preserved
     returns)

@@ -7,14 +7,19 @@ use borrow.Author.Rules.{rules}
 use Rattle.field.proofs.packed.room.Statement.{statement}
 use Rattle.field.proofs.packed.room.Tie as tie
 
-of-requires : tie.Need-of-requires
-of-requires c κs = search rules
+of-l-requires : tie.Need-of-l-requires
+of-l-requires c κs = search rules
 
-add-result : tie.Need-overflow-add-result
-add-result c = record { fits = omega (arith, ap (λ (l : Level). l.coordinates) c.before.of.ensures, (bounded c.before.before.args.level).narrow) }
+overflow_add-result : tie.Need-overflow_add-result
+overflow_add-result c = record { fits = omega (arith, ap (λ (l : Level). l.coordinates) c.of-l.ensures, (bounded c.args.level).narrow) }
 
 returns : tie.Need-returns
-returns c = ap (λ (l : Level). (l.coordinates + 3) / 4) c.before.of.ensures
+returns c = ap (λ (l : Level). (l.coordinates + 3) / 4) c.of-l.ensures
 
-pub room-spec : {M : Type 1} → statement M
-room-spec = tie.close (tie.spec of-requires add-result returns)
+pub room_spec : {M : Type 1} → statement M
+room_spec =
+    tie.close
+    (tie.spec
+    of-l-requires
+    overflow_add-result
+    returns)

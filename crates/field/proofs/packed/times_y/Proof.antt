@@ -46,85 +46,85 @@ module _ (a moved r : List ℕ) (y : ℕ) where
   turned : (number : ℕ) → Turned (level_at number)
   turned number = every Turned number at_first at_second
 
-of-requires : tie.Need-of-requires
-of-requires c κs = search rules
+of-l-requires : tie.Need-of-l-requires
+of-l-requires c κs = search rules
 
-sub-coordinate : tie.Need-overflow-sub-coordinate
-sub-coordinate c = omega (arith, ap (λ (l : Level). l.coordinates) c.before.before.of.ensures, (bounded c.before.before.before.before.args.level).coordinates)
+overflow_sub-l : tie.Need-overflow_sub-l
+overflow_sub-l c = omega (arith, ap (λ (l : Level). l.coordinates) c.of-l.ensures, (bounded c.args.level).coordinates)
 
-coordinate-requires : tie.Need-coordinate-requires
-coordinate-requires c κs = omega (arith, ap (λ (l : Level). l.coordinates) c.before.before.of.ensures, (bounded c.before.before.before.before.args.level).coordinates, c.before.before.before.before.requires)
+coordinate-top-requires : tie.Need-coordinate-top-requires
+coordinate-top-requires c κs = omega (arith, ap (λ (l : Level). l.coordinates) c.of-l.ensures, (bounded c.args.level).coordinates, c.requires)
 
-cast-top : tie.Need-overflow-cast-top
-cast-top c = search rules
+overflow_cast-top : tie.Need-overflow_cast-top
+overflow_cast-top c = search rules
 
 raise-requires : tie.Need-raise-requires
-raise-requires c κs = (c.before.before.before.before.before.before.requires, search rules)
+raise-requires c κs = (c.requires, search rules)
 
-mul-z : tie.Need-overflow-mul-z
-mul-z c = omega (arith, ap (λ (l : Level). l.power) c.before.before.before.before.before.before.before.of.ensures, (bounded c.before.before.before.before.before.before.before.before.before.args.level).inner, (bounded c.before.before.before.before.before.before.before.before.before.args.level).narrow)
+offset_bounds-z-p : tie.Need-offset_bounds-z-p
+offset_bounds-z-p c = omega (arith, ap (λ (l : Level). l.power) c.of-l.ensures, (bounded c.args.level).inner, (bounded c.args.level).narrow)
 
-slice-read-z : tie.Need-slice-read-z
-slice-read-z c = omega (arith, ap (λ (l : Level). l.power) c.before.before.before.before.before.before.before.before.of.ensures, (bounded c.before.before.before.before.before.before.before.before.before.before.args.level).inner, c.before.before.before.raise.auto.0, c.before.before.before.before.before.before.before.before.before.before.requires)
+bounds-z-p : tie.Need-bounds-z-p
+bounds-z-p c = omega (arith, ap (λ (l : Level). l.power) c.of-l.ensures, (bounded c.args.level).inner, c.raise.auto.z, c.requires)
 
-mul-z-2 : tie.Need-overflow-mul-z-2
-mul-z-2 c = search rules
+overflow_mul-z : tie.Need-overflow_mul-z
+overflow_mul-z c = search rules
 
-shl-z : tie.Need-overflow-shl-z
-shl-z c = search rules
+overflow_shl-z : tie.Need-overflow_shl-z
+overflow_shl-z c = search rules
 
-mul-z-3 : tie.Need-overflow-mul-z-3
-mul-z-3 c = omega (arith, ap (λ (l : Level). l.power) c.before.before.before.before.before.before.before.before.of.ensures, (bounded c.before.before.before.before.before.before.before.before.before.before.args.level).inner, (bounded c.before.before.before.before.before.before.before.before.before.before.args.level).narrow)
+offset_bounds-z-p-2 : tie.Need-offset_bounds-z-p-2
+offset_bounds-z-p-2 c = omega (arith, ap (λ (l : Level). l.power) c.of-l.ensures, (bounded c.args.level).inner, (bounded c.args.level).narrow)
 
-slice-write-z : tie.Need-slice-write-z
-slice-write-z c = omega (arith, ap (λ (l : Level). l.power) c.before.before.before.before.before.before.before.before.of.ensures, (bounded c.before.before.before.before.before.before.before.before.before.before.args.level).inner, c.before.before.before.raise.auto.0, c.before.before.before.before.before.before.before.before.before.before.requires)
+bounds-z-p-2 : tie.Need-bounds-z-p-2
+bounds-z-p-2 c = omega (arith, ap (λ (l : Level). l.power) c.of-l.ensures, (bounded c.args.level).inner, c.raise.auto.z, c.requires)
 
-same_length : tie.Need-same-length
-same_length c = simp length-set c.before.before.before.raise.auto.0
+shape_of-z : tie.Need-shape_of-z
+shape_of-z c = simp length-set c.raise.auto.z
 
 returns : tie.Need-returns
-returns c = turned a c.before.before.before.raise.new.0 r top c.before.before.before.before.before.before.before.before.before.before.args.level (subst (λ l. Raised l a c.before.before.before.raise.new.0 r top) c.before.before.before.before.before.before.before.before.of.ensures record {
-  small = subst (λ v. v < 65536) (sym (c.before.before.before.before.before.coordinate.ensures ∙ coordinate-is a (c.before.before.before.before.before.before.before.before.of.result.coordinates - 1))) (lane-lt _ _);
-  highest = c.before.before.before.before.before.coordinate.ensures;
-  within = λ q j h k. c.before.before.before.raise.ensures.1.0 q j (omega (arith, same)) k;
-  across = λ q h. c.before.before.before.raise.ensures.1.1 q (omega (arith, same));
-  bottom = c.before.before.before.raise.ensures.0;
-  others = λ q d. get_or-set_other c.before.before.before.raise.new.0 p q v 0 d;
-  tapped = get_or-set_same c.before.before.before.raise.new.0 p v 0 (omega (arith, ap (λ (l : Level). l.power) c.before.before.before.before.before.before.before.before.of.ensures, (bounded c.before.before.before.before.before.before.before.before.before.before.args.level).inner, c.before.before.before.raise.auto.0, c.before.before.before.before.before.before.before.before.before.before.requires));
+returns c = turned a c.raise.new.z r top c.args.level (subst (λ l. Raised l a c.raise.new.z r top) c.of-l.ensures record {
+  small = subst (λ v. v < 65536) (sym (c.coordinate-top.ensures ∙ coordinate-is a (c.of-l.result.coordinates - 1))) (lane-lt _ _);
+  highest = c.coordinate-top.ensures;
+  within = λ q j h k. c.raise.ensures.1.0 q j (omega (arith, same)) k;
+  across = λ q h. c.raise.ensures.1.1 q (omega (arith, same));
+  bottom = c.raise.ensures.0;
+  others = λ q d. get_or-set_other c.raise.new.z p q v 0 d;
+  tapped = get_or-set_same c.raise.new.z p v 0 (omega (arith, ap (λ (l : Level). l.power) c.of-l.ensures, (bounded c.args.level).inner, c.raise.auto.z, c.requires));
 })
   where
     a : List ℕ
-    a = c.before.before.before.before.before.before.before.before.before.before.args.z.now
+    a = c.args.z.now
 
     top : ℕ
-    top = c.before.before.before.before.before.coordinate.result
+    top = c.coordinate-top.result
 
     p : ℕ
-    p = c.before.before.before.before.before.before.before.before.of.result.power / 4
+    p = c.of-l.result.power / 4
 
     v : ℕ
-    v = bit_xor (get_or c.before.before.before.raise.new.0 p 0) (top * 2 ^ (16 * (c.before.before.before.before.before.before.before.before.of.result.power % 4)) % 2 ^ 64)
+    v = bit_xor (get_or c.raise.new.z p 0) (top * 2 ^ (16 * (c.of-l.result.power % 4)) % 2 ^ 64)
 
     r : List ℕ
-    r = set c.before.before.before.raise.new.0 p v
+    r = set c.raise.new.z p v
 
-    same : room c.before.before.before.before.before.before.before.before.of.result ≡ room (level_at c.before.before.before.before.before.before.before.before.before.before.args.level)
-    same = ap room c.before.before.before.before.before.before.before.before.of.ensures
+    same : room c.of-l.result ≡ room (level_at c.args.level)
+    same = ap room c.of-l.ensures
 
-pub times-y-spec : {M : Type 1} → statement M
-times-y-spec =
+pub times_y_spec : {M : Type 1} → statement M
+times_y_spec =
     tie.close
     (tie.spec
-    of-requires
-    sub-coordinate
-    coordinate-requires
-    cast-top
+    of-l-requires
+    overflow_sub-l
+    coordinate-top-requires
+    overflow_cast-top
     raise-requires
-    mul-z
-    slice-read-z
-    mul-z-2
-    shl-z
-    mul-z-3
-    slice-write-z
-    same_length
+    offset_bounds-z-p
+    bounds-z-p
+    overflow_mul-z
+    overflow_shl-z
+    offset_bounds-z-p-2
+    bounds-z-p-2
+    shape_of-z
     returns)

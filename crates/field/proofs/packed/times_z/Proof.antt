@@ -11,36 +11,45 @@ use borrow.Author.Rules.{rules}
 use Rattle.field.proofs.packed.times_z.Statement.{statement}
 use Rattle.field.proofs.packed.times_z.Tie as tie
 
-of-requires : tie.Need-of-requires
-of-requires c κs = search rules
+of-l-requires : tie.Need-of-l-requires
+of-l-requires c κs = search rules
 
-shl-rule : tie.Need-overflow-shl-rule
-shl-rule c = omega (arith, ap (λ (l : Level). l.width) c.of.ensures, (bounded c.before.args.level).short)
+overflow_shl-rule : tie.Need-overflow_shl-rule
+overflow_shl-rule c = omega (arith, ap (λ (l : Level). l.width) c.of-l.ensures, (bounded c.args.level).short)
 
-shl-rule-2 : tie.Need-overflow-shl-rule-2
-shl-rule-2 c = omega (arith, ap (λ (l : Level). l.tap) c.of.ensures, (bounded c.before.args.level).short, (bounded c.before.args.level).tap)
+overflow_shl-rule-2 : tie.Need-overflow_shl-rule-2
+overflow_shl-rule-2 c = omega (arith, ap (λ (l : Level). l.tap) c.of-l.ensures, (bounded c.args.level).short, (bounded c.args.level).tap)
 
-add-rule : tie.Need-overflow-add-rule
-add-rule c = record { fits = omega (arith, subst (λ (l : Level). shifted 64 l.width + shifted 64 l.tap < 8192) (sym c.of.ensures) (small_64 c.before.args.level)) }
+overflow_add-rule : tie.Need-overflow_add-rule
+overflow_add-rule c = record { fits = omega (arith, subst (λ (l : Level). shifted 64 l.width + shifted 64 l.tap < 8192) (sym c.of-l.ensures) (small_64 c.args.level)) }
 
-add-rule-2 : tie.Need-overflow-add-rule-2
-add-rule-2 c = record { fits = omega (arith, subst (λ (l : Level). shifted 64 l.width + shifted 64 l.tap < 8192) (sym c.of.ensures) (small_64 c.before.args.level)) }
+overflow_add-rule-2 : tie.Need-overflow_add-rule-2
+overflow_add-rule-2 c = record { fits = omega (arith, subst (λ (l : Level). shifted 64 l.width + shifted 64 l.tap < 8192) (sym c.of-l.ensures) (small_64 c.args.level)) }
 
-sub-highest : tie.Need-overflow-sub-highest
-sub-highest c = omega (arith, ap (λ (l : Level). l.width) c.before.of.ensures, (bounded c.before.before.args.level).width)
+overflow_sub-highest : tie.Need-overflow_sub-highest
+overflow_sub-highest c = omega (arith, ap (λ (l : Level). l.width) c.of-l.ensures, (bounded c.args.level).width)
 
-shr-highest : tie.Need-overflow-shr-highest
-shr-highest c = omega (arith, ap (λ (l : Level). l.width) c.before.of.ensures, (bounded c.before.before.args.level).short)
+overflow_shr-highest : tie.Need-overflow_shr-highest
+overflow_shr-highest c = omega (arith, ap (λ (l : Level). l.width) c.of-l.ensures, (bounded c.args.level).short)
 
-mul-result : tie.Need-overflow-mul-result
-mul-result c = record { fits = lanes_fit _ _ (and_le_r (c.before.before.args.x / 2 ^ (c.before.of.result.width - 1)) 281479271743489) (omega (arith, subst (λ (l : Level). shifted 64 l.width + shifted 64 l.tap < 8192) (sym c.before.of.ensures) (small_64 c.before.before.args.level))) }
+overflow_mul-result : tie.Need-overflow_mul-result
+overflow_mul-result c = record { fits = lanes_fit _ _ (and_le_r (c.args.x / 2 ^ (c.of-l.result.width - 1)) 281479271743489) (omega (arith, subst (λ (l : Level). shifted 64 l.width + shifted 64 l.tap < 8192) (sym c.of-l.ensures) (small_64 c.args.level))) }
 
 returns : tie.Need-returns
 returns c =
-    let a = c.before.before.args in
-    subst (λ (l : Level). TimesZ (level_at a.level).width (level_at a.level).tap a.x (bit_xor (a.x * 2 % 2 ^ 64) (bit_and (a.x / 2 ^ (l.width - 1)) 281479271743489 * rule_of 64 l))) (sym c.before.of.ensures) (lanes a.level a.x)
+    let a = c.args in
+    subst (λ (l : Level). TimesZ (level_at a.level).width (level_at a.level).tap a.x (bit_xor (a.x * 2 % 2 ^ 64) (bit_and (a.x / 2 ^ (l.width - 1)) 281479271743489 * rule_of 64 l))) (sym c.of-l.ensures) (lanes a.level a.x)
 
-pub times-z-spec : {M : Type 1} → statement M
-times-z-spec =
+pub times_z_spec : {M : Type 1} → statement M
+times_z_spec =
     tie.close
-    (tie.spec of-requires shl-rule shl-rule-2 add-rule add-rule-2 sub-highest shr-highest mul-result returns)
+    (tie.spec
+    of-l-requires
+    overflow_shl-rule
+    overflow_shl-rule-2
+    overflow_add-rule
+    overflow_add-rule-2
+    overflow_sub-highest
+    overflow_shr-highest
+    overflow_mul-result
+    returns)

@@ -3,11 +3,15 @@ use borrow.Author.Rules.{rules}
 use Rattle.field.proofs.packed.up.Statement.{statement}
 use Rattle.field.proofs.packed.up.Tie as tie
 
-add-result : tie.Need-overflow-add-result
-add-result c = search rules
+overflow_add-result : tie.Need-overflow_add-result
+overflow_add-result c = search rules
 
 returns : tie.Need-returns
 returns c = (lane-up-zero 3 c.args.x c.args.b c.requires, λ j l. lane-up-suc 3 c.args.x c.args.b j c.requires l)
 
-pub up-spec : {M : Type 1} → statement M
-up-spec = tie.close (tie.spec add-result returns)
+pub up_spec : {M : Type 1} → statement M
+up_spec =
+    tie.close
+    (tie.spec
+    overflow_add-result
+    returns)

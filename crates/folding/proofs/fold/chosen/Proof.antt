@@ -9,8 +9,8 @@ use Rattle.row.proofs.NumberLaws.{odd-not}
 use Rattle.folding.proofs.fold.chosen.Statement.{statement}
 use Rattle.folding.proofs.fold.chosen.Tie as tie
 
-sub-masked : tie.Need-overflow-sub-masked
-sub-masked c = search rules
+overflow_sub-w : tie.Need-overflow_sub-w
+overflow_sub-w c = search rules
 
 masked-requires : tie.Need-masked-requires
 masked-requires c κs = search rules
@@ -23,12 +23,17 @@ plus-requires c κs = search rules
 
 returns : tie.Need-returns
 returns c a b p q =
-    let s = c.before.before.before in
-    let l = level_at s.args.level in
+    let l = level_at c.args.level in
     let k = K l in
-    let second = k.mul (bit k (odd s.args.w)) b in
-    subst (λ x. Holds l c.plus.result.words (k.add (k.mul (bit k x) a) second)) (odd-not s.args.w s.requires) (c.plus.ensures (k.mul (bit k (odd (1 - s.args.w))) a) second (c.before.before.masked.ensures a p) (c.before.masked2.ensures b q))
+    let second = k.mul (bit k (odd c.args.w)) b in
+    subst (λ x. Holds l c.plus.result.words (k.add (k.mul (bit k x) a) second)) (odd-not c.args.w c.requires) (c.plus.ensures (k.mul (bit k (odd (1 - c.args.w))) a) second (c.masked.ensures a p) (c.masked-2.ensures b q))
 
-pub chosen-spec : {M : Type 1} → statement M
-chosen-spec =
-    tie.close (tie.spec sub-masked masked-requires masked-requires-2 plus-requires returns)
+pub chosen_spec : {M : Type 1} → statement M
+chosen_spec =
+    tie.close
+    (tie.spec
+    overflow_sub-w
+    masked-requires
+    masked-requires-2
+    plus-requires
+    returns)

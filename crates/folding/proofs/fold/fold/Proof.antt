@@ -18,138 +18,133 @@ use Rattle.folding.proofs.FoldLaws.{folded, folded-none, folded_more, folded-all
 use Rattle.folding.proofs.fold.fold.Statement.{statement}
 use Rattle.folding.proofs.fold.fold.Tie as tie
 
-abbrev invariant-loop : tie.invariant-loop
-invariant-loop buf₀ position offsets at d level t₀ buf t =
+abbrev invariant-loop-t : tie.invariant-loop-t
+invariant-loop-t buf₀ position offsets at d level t₀ buf t =
     (t ≤ d) × (length buf ≡ length buf₀) × Words (level_at level) buf
     × ((k : ℕ) → folded (K (level_at level)) d (digit d position) (λ i. el (level_at level) offsets (at + i)) (d + 1) (d - t + 1) (el (level_at level) buf) t k ≡ folded (K (level_at level)) d (digit d position) (λ i. el (level_at level) offsets (at + i)) (d + 1) 1 (el (level_at level) buf₀) d k)
 
-abbrev decreases-loop : tie.decreases-loop
-decreases-loop buf₀ position offsets at d level t₀ buf t = t
+abbrev decreases-loop-t : tie.decreases-loop-t
+decreases-loop-t buf₀ position offsets at d level t₀ buf t = t
 
-abbrev L : tie.Start invariant-loop decreases-loop → Level
+abbrev L : tie.Start invariant-loop-t decreases-loop-t → Level
 L s = level_at s.args.level
 
-abbrev digits : tie.Start invariant-loop decreases-loop → ℕ → Bool
+abbrev digits : tie.Start invariant-loop-t decreases-loop-t → ℕ → Bool
 digits s = digit s.args.d s.args.position
 
-abbrev offsets : (s : tie.Start invariant-loop decreases-loop) → ℕ → (K (L s)).Carrier
+abbrev offsets : (s : tie.Start invariant-loop-t decreases-loop-t) → ℕ → (K (L s)).Carrier
 offsets s k = el (L s) s.args.offsets.now (s.args.at + k)
 
-loop-holds : tie.Need-loop-init invariant-loop decreases-loop
-loop-holds c =
-    let s = c.before.before in
-    (omega arith, refl, s.requires.0, λ k. ap (λ e. folded (K (L s)) s.args.d (digits s) (offsets s) (s.args.d + 1) (e + 1) (el (L s) s.args.buf.now) s.args.d k) (sub_self s.args.d))
+loop-t-init : tie.Need-loop-t-init invariant-loop-t decreases-loop-t
+loop-t-init c =
+    (omega arith, refl, c.requires.0, λ k. ap (λ e. folded (K (L c.before.before)) c.args.d (digits c.before.before) (offsets c.before.before) (c.args.d + 1) (e + 1) (el (L c.before.before) c.args.buf.now) c.args.d k) (sub_self c.args.d))
 
-sub-t : tie.Need-overflow-sub-t invariant-loop decreases-loop
-sub-t c = omega (arith, c.loop-test.true)
+overflow_sub-t : tie.Need-overflow_sub-t invariant-loop-t decreases-loop-t
+overflow_sub-t c = omega (arith, c.loop-t-test.true)
 
-shr-w : tie.Need-overflow-shr-w invariant-loop decreases-loop
-shr-w c = omega (arith, c.before.loop.invariant.0, c.before.before.before.before.requires.2)
+overflow_shr-w : tie.Need-overflow_shr-w invariant-loop-t decreases-loop-t
+overflow_shr-w c = omega (arith, c.loop-t.invariant.0, c.requires.2)
 
-sub-get : tie.Need-overflow-sub-get invariant-loop decreases-loop
-sub-get c = omega (arith, c.before.loop.invariant.0, c.loop-test.true)
+overflow_sub-d : tie.Need-overflow_sub-d invariant-loop-t decreases-loop-t
+overflow_sub-d c = omega (arith, c.loop-t.invariant.0, c.loop-t-test.true)
 
-sub-get-2 : tie.Need-overflow-sub-get-2 invariant-loop decreases-loop
-sub-get-2 c = omega (arith, c.before.loop.invariant.0, c.loop-test.true)
+overflow_sub-d-in-loop-t : tie.Need-overflow_sub-d-in-loop-t invariant-loop-t decreases-loop-t
+overflow_sub-d-in-loop-t c = omega (arith, c.loop-t.invariant.0, c.loop-t-test.true)
 
-add-get : tie.Need-overflow-add-get invariant-loop decreases-loop
-add-get c = omega (arith, c.before.loop.invariant.0, c.loop-test.true, c.before.before.before.before.requires.4.1, c.before.before.before.before.well-formed)
+overflow_add-at : tie.Need-overflow_add-at invariant-loop-t decreases-loop-t
+overflow_add-at c = omega (arith, c.loop-t.invariant.0, c.loop-t-test.true, c.requires.4.1, c.well_formed)
 
-get-requires : tie.Need-get-requires invariant-loop decreases-loop
-get-requires c κs =
-    let s = c.before.before.before.before in
-    (s.requires.1, fits_le (L s) (s.args.at + (s.args.d - 1 - (c.before.loop.t - 1)) + 1) (s.args.at + s.args.d) (omega (arith, c.before.loop.invariant.0, c.loop-test.true)) refl s.requires.4)
+get-v-requires : tie.Need-get-v-requires invariant-loop-t decreases-loop-t
+get-v-requires c κs =
+    (c.requires.1, fits_le (L c.before.before.before.before) (c.args.at + (c.args.d - 1 - (c.loop-t.t - 1)) + 1) (c.args.at + c.args.d) (omega (arith, c.loop-t.invariant.0, c.loop-t-test.true)) refl c.requires.4)
 
-of-requires : tie.Need-of-requires invariant-loop decreases-loop
-of-requires c κs = search rules
+of-multiples-requires : tie.Need-of-multiples-requires invariant-loop-t decreases-loop-t
+of-multiples-requires c κs = search rules
 
 -- the table of the digit's offset
-tabulated : (c : tie.After-of invariant-loop decreases-loop) → Multiplies (L c.before.before.before.before.before.before) c.of.result (offsets c.before.before.before.before.before.before (c.before.before.before.before.before.before.args.d - 1 - (c.before.before.before.loop.t - 1)))
-tabulated c = c.of.ensures (offsets c.before.before.before.before.before.before (c.before.before.before.before.before.before.args.d - 1 - (c.before.before.before.loop.t - 1))) c.before.get.ensures
+tabulated : (c : tie.After-of-multiples invariant-loop-t decreases-loop-t) → Multiplies (L c.before.before.before.before.before.before) c.of-multiples.result (offsets c.before.before.before.before.before.before (c.args.d - 1 - (c.loop-t.t - 1)))
+tabulated c = c.of-multiples.ensures (offsets c.before.before.before.before.before.before (c.args.d - 1 - (c.loop-t.t - 1))) c.get-v.ensures
 
-add-halve : tie.Need-overflow-add-halve invariant-loop decreases-loop
-add-halve c = omega (arith, c.before.before.before.before.before.before.before.requires.2)
+overflow_add-d : tie.Need-overflow_add-d invariant-loop-t decreases-loop-t
+overflow_add-d c = omega (arith, c.requires.2)
 
-power-requires : tie.Need-power-requires invariant-loop decreases-loop
-power-requires c κs = omega (arith, c.before.before.before.before.loop.invariant.0, c.before.before.before.before.before.before.before.requires.2)
+power-requires : tie.Need-power-requires invariant-loop-t decreases-loop-t
+power-requires c κs = omega (arith, c.loop-t.invariant.0, c.requires.2)
 
-sub-halve : tie.Need-overflow-sub-halve invariant-loop decreases-loop
-sub-halve c = omega (arith, c.before.before.before.before.before.loop.invariant.0)
+overflow_sub-d-in-loop-t-2 : tie.Need-overflow_sub-d-in-loop-t-2 invariant-loop-t decreases-loop-t
+overflow_sub-d-in-loop-t-2 c = omega (arith, c.loop-t.invariant.0)
 
-halve-requires : tie.Need-halve-requires invariant-loop decreases-loop
+halve-requires : tie.Need-halve-requires invariant-loop-t decreases-loop-t
 halve-requires c κs =
-    let s = c.before.before.before.before.before.before.before.before in
-    let l = c.before.before.before.before.before.loop in
-    let n = s.args.d + 1 in
+    let l = c.loop-t in
+    let n = c.args.d + 1 in
     let u = l.t - 1 in
-    let below : u < s.args.d = omega (arith, l.invariant.0, c.before.before.before.before.loop-test.true) in
+    let below : u < c.args.d = omega (arith, l.invariant.0, c.loop-t-test.true) in
     let half : n * c.power.result ≡ n * 2 ^ u = ap (λ e. n * e) c.power.ensures in (
       l.invariant.2,
-      record { factor = offsets s (s.args.d - 1 - u); table = tabulated c.before.before },
-      mod-lt (s.args.position / 2 ^ u) (omega arith),
+      record { factor = offsets c.before.before.before.before.before.before.before.before (c.args.d - 1 - u); table = tabulated c.before.before },
+      mod-lt (c.args.position / 2 ^ u) (omega arith),
       omega arith,
-      fits_le (L s) (n * c.power.result + n * c.power.result) (n * 2 ^ s.args.d) (omega (arith, half, room n s.args.d u below)) l.invariant.1 s.requires.3,
+      fits_le (L c.before.before.before.before.before.before.before.before) (n * c.power.result + n * c.power.result) (n * 2 ^ c.args.d) (omega (arith, half, room n c.args.d u below)) l.invariant.1 c.requires.3,
     )
 
-loop-less : tie.Need-loop-smaller invariant-loop decreases-loop
-loop-less c = omega (arith, c.before.before.before.before.before.before.before.loop-test.true)
+loop-t-smaller : tie.Need-loop-t-smaller invariant-loop-t decreases-loop-t
+loop-t-smaller c = omega (arith, c.loop-t-test.true)
 
-loop-again : tie.Need-loop-preserved invariant-loop decreases-loop
-loop-again c =
-    let s = c.before.before.before.before.before.before.before.before.before.before.before in
-    let l = c.before.before.before.before.before.before.before.before.loop in
-    let r = c.before.before.halve in
-    let k = K (L s) in
-    let n = s.args.d + 1 in
+loop-t-preserved : tie.Need-loop-t-preserved invariant-loop-t decreases-loop-t
+loop-t-preserved c =
+    let l = c.loop-t in
+    let r = c.halve in
+    let k = K (L c.before.before.before.before.before.before.before.before.before.before.before) in
+    let n = c.args.d + 1 in
     let u = l.t - 1 in
-    let i = s.args.d - 1 - u in
-    let below : u < s.args.d = omega (arith, l.invariant.0, c.before.before.before.before.before.before.before.loop-test.true) in
-    let next : u + 1 ≡ l.t = omega (arith, c.before.before.before.before.before.before.before.loop-test.true) in
-    let size : s.args.d - u ≡ s.args.d - l.t + 1 = omega (arith, l.invariant.0, c.before.before.before.before.before.before.before.loop-test.true) in
-    let d = r.ensures (offsets s i) (tabulated c.before.before.before.before.before) in (
+    let i = c.args.d - 1 - u in
+    let below : u < c.args.d = omega (arith, l.invariant.0, c.loop-t-test.true) in
+    let next : u + 1 ≡ l.t = omega (arith, c.loop-t-test.true) in
+    let size : c.args.d - u ≡ c.args.d - l.t + 1 = omega (arith, l.invariant.0, c.loop-t-test.true) in
+    let d = r.ensures (offsets c.before.before.before.before.before.before.before.before.before.before.before i) (tabulated c.before.before.before.before.before) in (
       omega (arith, l.invariant.0),
       d.same ∙ l.invariant.1,
       d.words,
-      λ e. sym (folded_more k s.args.d (digits s) (offsets s) n (s.args.d - u) (el (L s) l.buf) (el (L s) r.new.0) u below (omega arith)
-          (subst₂ (λ h b. Halved k (el (L s) l.buf) (el (L s) r.new.0) n h (s.args.d - u) b (offsets s i) h) c.before.before.before.power.ensures (sym (digit-place s.args.d s.args.position u below)) d.holds) e)
-          ∙ ap₂ (λ m t. folded k s.args.d (digits s) (offsets s) n m (el (L s) l.buf) t e) size next ∙ l.invariant.3 e,
+      λ e. sym (folded_more k c.args.d (digits c.before.before.before.before.before.before.before.before.before.before.before) (offsets c.before.before.before.before.before.before.before.before.before.before.before) n (c.args.d - u) (el (L c.before.before.before.before.before.before.before.before.before.before.before) l.buf) (el (L c.before.before.before.before.before.before.before.before.before.before.before) r.new.buf) u below (omega arith)
+          (subst₂ (λ h b. Halved k (el (L c.before.before.before.before.before.before.before.before.before.before.before) l.buf) (el (L c.before.before.before.before.before.before.before.before.before.before.before) r.new.buf) n h (c.args.d - u) b (offsets c.before.before.before.before.before.before.before.before.before.before.before i) h) c.power.ensures (sym (digit-place c.args.d c.args.position u below)) d.holds) e)
+          ∙ ap₂ (λ m t. folded k c.args.d (digits c.before.before.before.before.before.before.before.before.before.before.before) (offsets c.before.before.before.before.before.before.before.before.before.before.before) n m (el (L c.before.before.before.before.before.before.before.before.before.before.before) l.buf) t e) size next ∙ l.invariant.3 e,
     )
 
-same_length : tie.Need-same-length invariant-loop decreases-loop
-same_length c = c.before.loop.invariant.1
+shape_of-buf : tie.Need-shape_of-buf invariant-loop-t decreases-loop-t
+shape_of-buf c = c.loop-t.invariant.1
 
-returns : tie.Need-returns invariant-loop decreases-loop
+returns : tie.Need-returns invariant-loop-t decreases-loop-t
 returns c =
-    let l = c.before.loop in
-    let s = c.before.before.before.before in
-    let done : l.t ≡ 0 = omega (arith, c.loop-test.false) in
+    let l = c.loop-t in
+    let done : l.t ≡ 0 = omega (arith, c.loop-t-test.false) in
     record {
       same = l.invariant.1;
       words = l.invariant.2;
-      holds = λ k h. sym (folded-all (K (L s)) s.args.d (digits s) (offsets s) (s.args.d + 1) (s.args.d - 0 + 1) (el (L s) l.buf) k (omega arith))
-          ∙ subst (λ t. folded (K (L s)) s.args.d (digits s) (offsets s) (s.args.d + 1) (s.args.d - t + 1) (el (L s) l.buf) t k ≡ folded (K (L s)) s.args.d (digits s) (offsets s) (s.args.d + 1) 1 (el (L s) s.args.buf.now) s.args.d k) done (l.invariant.3 k)
-          ∙ folded-none (K (L s)) s.args.d (digits s) (offsets s) (s.args.d + 1) (el (L s) s.args.buf.now) k;
+      holds = λ k h. sym (folded-all (K (L c.before.before.before.before)) c.args.d (digits c.before.before.before.before) (offsets c.before.before.before.before) (c.args.d + 1) (c.args.d - 0 + 1) (el (L c.before.before.before.before) l.buf) k (omega arith))
+          ∙ subst (λ t. folded (K (L c.before.before.before.before)) c.args.d (digits c.before.before.before.before) (offsets c.before.before.before.before) (c.args.d + 1) (c.args.d - t + 1) (el (L c.before.before.before.before) l.buf) t k ≡ folded (K (L c.before.before.before.before)) c.args.d (digits c.before.before.before.before) (offsets c.before.before.before.before) (c.args.d + 1) 1 (el (L c.before.before.before.before) c.args.buf.now) c.args.d k) done (l.invariant.3 k)
+          ∙ folded-none (K (L c.before.before.before.before)) c.args.d (digits c.before.before.before.before) (offsets c.before.before.before.before) (c.args.d + 1) (el (L c.before.before.before.before) c.args.buf.now) k;
     }
 
-pub fold-spec : {M : Type 1} → statement M
-fold-spec =
+pub fold_spec : {M : Type 1} → statement M
+fold_spec =
     tie.close
     (tie.spec
-    invariant-loop
-    decreases-loop
-    loop-holds
-    sub-t
-    shr-w
-    sub-get
-    sub-get-2
-    add-get
-    get-requires
-    of-requires
-    add-halve
+    invariant-loop-t
+    decreases-loop-t
+    loop-t-init
+    overflow_sub-t
+    overflow_shr-w
+    overflow_sub-d
+    overflow_sub-d-in-loop-t
+    overflow_add-at
+    get-v-requires
+    of-multiples-requires
+    overflow_add-d
     power-requires
-    sub-halve
+    overflow_sub-d-in-loop-t-2
     halve-requires
-    loop-less
-    loop-again
-    same_length
+    loop-t-smaller
+    loop-t-preserved
+    shape_of-buf
     returns)

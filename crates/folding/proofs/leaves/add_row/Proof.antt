@@ -15,91 +15,86 @@ use Rattle.row.proofs.ElementLaws.{fits_le}
 use Rattle.folding.proofs.leaves.add_row.Statement.{statement}
 use Rattle.folding.proofs.leaves.add_row.Tie as tie
 
-abbrev invariant-loop : tie.invariant-loop
-invariant-loop dst₀ multiples h at n level i₀ dst i =
+abbrev invariant-loop-i : tie.invariant-loop-i
+invariant-loop-i dst₀ multiples h at n level i₀ dst i =
     (i ≤ n) × (length dst ≡ length dst₀) × Words (level_at level) dst
     × ((y : (K (level_at level)).Carrier) → Multiplies (level_at level) multiples y → Added (K (level_at level)) (el (level_at level) dst₀) (el (level_at level) dst) (λ r. (K (level_at level)).mul (small_of (level_at level) h (at + r)) y) i)
 
-abbrev decreases-loop : tie.decreases-loop
-decreases-loop dst₀ multiples h at n level i₀ dst i = n - i
+abbrev decreases-loop-i : tie.decreases-loop-i
+decreases-loop-i dst₀ multiples h at n level i₀ dst i = n - i
 
-abbrev L : tie.Start invariant-loop decreases-loop → Level
+abbrev L : tie.Start invariant-loop-i decreases-loop-i → Level
 L s = level_at s.args.level
 
-abbrev terms : (s : tie.Start invariant-loop decreases-loop) → (K (L s)).Carrier → ℕ → (K (L s)).Carrier
+abbrev terms : (s : tie.Start invariant-loop-i decreases-loop-i) → (K (L s)).Carrier → ℕ → (K (L s)).Carrier
 terms s y i = (K (L s)).mul (small_of (L s) s.args.h.now (s.args.at + i)) y
 
-loop-holds : tie.Need-loop-init invariant-loop decreases-loop
-loop-holds c =
-    let s = c.before.before in
-    (omega arith, refl, s.requires.0, λ y t. added_none (K (L s)) (el (L s) s.args.dst.now) (terms s y))
+loop-i-init : tie.Need-loop-i-init invariant-loop-i decreases-loop-i
+loop-i-init c =
+    (omega arith, refl, c.requires.0, λ y t. added_none (K (L c.before.before)) (el (L c.before.before) c.args.dst.now) (terms c.before.before y))
 
-add-scaled : tie.Need-overflow-add-scaled invariant-loop decreases-loop
-add-scaled c = omega (arith, c.before.loop-test.true, c.before.before.before.before.before.requires.3, c.before.before.before.before.before.well-formed)
+overflow_add-at : tie.Need-overflow_add-at invariant-loop-i decreases-loop-i
+overflow_add-at c = omega (arith, c.loop-i-test.true, c.requires.3, c.well_formed)
 
-mul-scaled : tie.Need-overflow-mul-scaled invariant-loop decreases-loop
-mul-scaled c = omega (arith, c.before.loop-test.true, c.before.before.before.before.before.requires.3)
+offset_bounds-h-at : tie.Need-offset_bounds-h-at invariant-loop-i decreases-loop-i
+offset_bounds-h-at c = omega (arith, c.loop-i-test.true, c.requires.3)
 
-shared-slice-read-scaled : tie.Need-shared-slice-read-scaled invariant-loop decreases-loop
-shared-slice-read-scaled c = omega (arith, c.before.before.loop-test.true, c.before.before.before.before.before.before.requires.3)
+bounds-h-at : tie.Need-bounds-h-at invariant-loop-i decreases-loop-i
+bounds-h-at c = omega (arith, c.loop-i-test.true, c.requires.3)
 
-scaled-requires : tie.Need-scaled-requires invariant-loop decreases-loop
+scaled-requires : tie.Need-scaled-requires invariant-loop-i decreases-loop-i
 scaled-requires c κs = search rules
 
-add-at-requires : tie.Need-add-at-requires invariant-loop decreases-loop
-add-at-requires c κs =
-    let s = c.before.before.before.before.before.before.before in
-    let l = c.before.before.before.before.loop in
-    (l.invariant.2, fits_le (L s) (l.i + 1) s.args.n (omega (arith, c.before.before.before.loop-test.true)) l.invariant.1 s.requires.4)
+add_at-requires : tie.Need-add_at-requires invariant-loop-i decreases-loop-i
+add_at-requires c κs =
+    let l = c.loop-i in
+    (l.invariant.2, fits_le (L c.before.before.before.before.before.before.before) (l.i + 1) c.args.n (omega (arith, c.loop-i-test.true)) l.invariant.1 c.requires.4)
 
 -- what add_at stored
-stored : (c : tie.After-add-at invariant-loop decreases-loop) (y : (K (L c.before.before.before.before.before.before.before.before)).Carrier) → Multiplies (L c.before.before.before.before.before.before.before.before) c.before.before.before.before.before.before.before.before.args.multiples y → Step (L c.before.before.before.before.before.before.before.before) c.before.before.before.before.before.loop.dst c.add_at.new.0 (λ f g. Put f g c.before.before.before.before.before.loop.i ((K (L c.before.before.before.before.before.before.before.before)).add (f c.before.before.before.before.before.loop.i) (terms c.before.before.before.before.before.before.before.before y c.before.before.before.before.before.loop.i)))
+stored : (c : tie.After-add_at invariant-loop-i decreases-loop-i) (y : (K (L c.before.before.before.before.before.before.before.before)).Carrier) → Multiplies (L c.before.before.before.before.before.before.before.before) c.args.multiples y → Step (L c.before.before.before.before.before.before.before.before) c.loop-i.dst c.add_at.new.s (λ f g. Put f g c.loop-i.i ((K (L c.before.before.before.before.before.before.before.before)).add (f c.loop-i.i) (terms c.before.before.before.before.before.before.before.before y c.loop-i.i)))
 stored c y t =
-    let s = c.before.before.before.before.before.before.before.before in
-    let i = c.before.before.before.before.before.loop.i in
-    c.add_at.ensures (terms s y i) (c.before.scaled.ensures y (s.requires.2 (s.args.at + i)) t)
+    let i = c.loop-i.i in
+    c.add_at.ensures (terms c.before.before.before.before.before.before.before.before y i) (c.scaled.ensures y (c.requires.2 (c.args.at + i)) t)
 
-add-i : tie.Need-overflow-add-i invariant-loop decreases-loop
-add-i c = omega (arith, c.before.before.before.before.before.before.loop-test.true, c.before.before.before.before.before.before.before.before.before.before.ranges.n)
+overflow_add-i : tie.Need-overflow_add-i invariant-loop-i decreases-loop-i
+overflow_add-i c = omega (arith, c.loop-i-test.true, c.ranges.n)
 
-loop-less : tie.Need-loop-smaller invariant-loop decreases-loop
-loop-less c = omega (arith, c.before.before.before.before.before.before.loop-test.true)
+loop-i-smaller : tie.Need-loop-i-smaller invariant-loop-i decreases-loop-i
+loop-i-smaller c = omega (arith, c.loop-i-test.true)
 
-loop-again : tie.Need-loop-preserved invariant-loop decreases-loop
-loop-again c =
-    let s = c.before.before.before.before.before.before.before.before.before.before in
-    let l = c.before.before.before.before.before.before.before.loop in
-    let d = stored c.before.before s.requires.1.factor s.requires.1.table in (
-      omega (arith, c.before.before.before.before.before.before.loop-test.true),
+loop-i-preserved : tie.Need-loop-i-preserved invariant-loop-i decreases-loop-i
+loop-i-preserved c =
+    let l = c.loop-i in
+    let d = stored c.before.before c.requires.1.factor c.requires.1.table in (
+      omega (arith, c.loop-i-test.true),
       d.same ∙ l.invariant.1,
       d.words,
-      λ y t. added_more (K (L s)) (el (L s) s.args.dst.now) (el (L s) l.dst) (el (L s) c.before.before.add_at.new.0) (terms s y) l.i (terms s y l.i) (l.invariant.3 y t) (stored c.before.before y t).holds refl,
+      λ y t. added_more (K (L c.before.before.before.before.before.before.before.before.before.before)) (el (L c.before.before.before.before.before.before.before.before.before.before) c.args.dst.now) (el (L c.before.before.before.before.before.before.before.before.before.before) l.dst) (el (L c.before.before.before.before.before.before.before.before.before.before) c.add_at.new.s) (terms c.before.before.before.before.before.before.before.before.before.before y) l.i (terms c.before.before.before.before.before.before.before.before.before.before y l.i) (l.invariant.3 y t) (stored c.before.before y t).holds refl,
     )
 
-same_length : tie.Need-same-length invariant-loop decreases-loop
-same_length c = c.before.loop.invariant.1
+shape_of-dst : tie.Need-shape_of-dst invariant-loop-i decreases-loop-i
+shape_of-dst c = c.loop-i.invariant.1
 
-returns : tie.Need-returns invariant-loop decreases-loop
+returns : tie.Need-returns invariant-loop-i decreases-loop-i
 returns c y t =
-    let l = c.before.loop in
-    let s = c.before.before.before.before in
-    let done : l.i ≡ s.args.n = omega arith in
-    record { same = l.invariant.1; words = l.invariant.2; holds = subst (Added (K (L s)) (el (L s) s.args.dst.now) (el (L s) l.dst) (terms s y)) done (l.invariant.3 y t) }
+    let l = c.loop-i in
+    let done : l.i ≡ c.args.n = omega arith in
+    record { same = l.invariant.1; words = l.invariant.2; holds = subst (Added (K (L c.before.before.before.before)) (el (L c.before.before.before.before) c.args.dst.now) (el (L c.before.before.before.before) l.dst) (terms c.before.before.before.before y)) done (l.invariant.3 y t) }
 
-pub add-row-spec : {M : Type 1} → statement M
-add-row-spec =
+pub add_row_spec : {M : Type 1} → statement M
+add_row_spec =
     tie.close
     (tie.spec
-    invariant-loop
-    decreases-loop
-    loop-holds
-    add-scaled
-    mul-scaled
-    shared-slice-read-scaled
+    invariant-loop-i
+    decreases-loop-i
+    loop-i-init
+    overflow_add-at
+    offset_bounds-h-at
+    bounds-h-at
     scaled-requires
-    add-at-requires
-    add-i
-    loop-less
-    loop-again
-    same_length
+    add_at-requires
+    overflow_add-i
+    loop-i-smaller
+    loop-i-preserved
+    shape_of-dst
     returns)

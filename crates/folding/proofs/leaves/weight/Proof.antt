@@ -10,16 +10,15 @@ use Rattle.folding.specs.Weights.{leaf}
 use Rattle.folding.proofs.leaves.weight.Statement.{statement}
 use Rattle.folding.proofs.leaves.weight.Tie as tie
 
-get-requires : tie.Need-get-requires
-get-requires c κs =
-    let s = c.before.before.before in
-    (s.requires.0, fits_le (level_at s.args.level) (s.args.j + 1) s.args.n (omega arith) refl s.requires.3)
+get-own-requires : tie.Need-get-own-requires
+get-own-requires c κs =
+    (c.requires.0, fits_le (level_at c.args.level) (c.args.j + 1) c.args.n (omega arith) refl c.requires.3)
 
-mul-scaled : tie.Need-overflow-mul-scaled
-mul-scaled c = search rules
+offset_bounds-x-j : tie.Need-offset_bounds-x-j
+offset_bounds-x-j c = search rules
 
-shared-slice-read-scaled : tie.Need-shared-slice-read-scaled
-shared-slice-read-scaled c = omega arith
+bounds-x-j : tie.Need-bounds-x-j
+bounds-x-j c = omega arith
 
 scaled-requires : tie.Need-scaled-requires
 scaled-requires c κs = search rules
@@ -30,28 +29,27 @@ plus-requires c κs = search rules
 zero-requires : tie.Need-zero-requires
 zero-requires c κs = search rules
 
-returns : tie.Need-returns
+returns-then-j-n : tie.Need-returns-then-j-n
 unfolding leaf
-returns c =
-    let s = c.before.before.before.before.before.before.before in
-    let l = level_at s.args.level in
-    let j = s.args.j in (
-      λ y t h. c.plus.ensures (el l s.args.alpha.now j) ((K l).mul (small_of l s.args.x.now j) y) c.before.before.before.get.ensures (c.before.scaled.ensures y (s.requires.1 j) t),
+returns-then-j-n c =
+    let l = level_at c.args.level in
+    let j = c.args.j in (
+      λ y t h. c.plus.ensures (el l c.args.alpha.now j) ((K l).mul (small_of l c.args.x.now j) y) c.get-own.ensures (c.scaled.ensures y (c.requires.1 j) t),
       λ h. absurd (omega arith),
     )
 
-returns-2 : tie.Need-returns-2
-returns-2 c = (λ y t h. absurd (omega arith), λ h. c.zero.ensures)
+returns-else-j-n : tie.Need-returns-else-j-n
+returns-else-j-n c = (λ y t h. absurd (omega arith), λ h. c.zero.ensures)
 
-pub weight-spec : {M : Type 1} → statement M
-weight-spec =
+pub weight_spec : {M : Type 1} → statement M
+weight_spec =
     tie.close
     (tie.spec
-    get-requires
-    mul-scaled
-    shared-slice-read-scaled
+    get-own-requires
+    offset_bounds-x-j
+    bounds-x-j
     scaled-requires
     plus-requires
     zero-requires
-    returns
-    returns-2)
+    returns-then-j-n
+    returns-else-j-n)

@@ -33,78 +33,73 @@ multiplier s = value_of (L s) s.args.beta.words
 abbrev term : (s : tie.Start) → ℕ → ℕ → (K (L s)).Carrier
 term s j k = z (K (L s)) s.args.d (digit s.args.d s.args.position) (λ i. el (L s) s.args.offsets.now (s.args.at + i)) j k
 
-add-leaves : tie.Need-overflow-add-leaves
-add-leaves c = omega (arith, c.before.before.before.before.before.before.requires.1.0)
+overflow_add-d : tie.Need-overflow_add-d
+overflow_add-d c = omega (arith, c.requires.1.0)
 
 power-requires : tie.Need-power-requires
-power-requires c κs = c.before.before.before.before.before.before.requires.1.0
+power-requires c κs = c.requires.1.0
 
 of-requires : tie.Need-of-requires
 of-requires c κs = search rules
 
 tabulated : (c : tie.After-of) → Multiplies (L c.before.before.before.before.before.before.before.before) c.of.result (multiplier c.before.before.before.before.before.before.before.before)
-tabulated c = c.of.ensures (multiplier c.before.before.before.before.before.before.before.before) c.before.before.before.before.before.before.before.before.requires.0.4
+tabulated c = c.of.ensures (multiplier c.before.before.before.before.before.before.before.before) c.requires.0.4
 
 leaves-requires : tie.Need-leaves-requires
 leaves-requires c κs =
-    let s = c.before.before.before.before.before.before.before.before in
-    let w = s.requires.0 in
-    let p = s.requires.1 in
-    (w.1, w.3, record { factor = multiplier s; table = tabulated c }, w.5, p.2, omega arith, omega arith, subst (λ e. Fits (L s) ((s.args.d + 1) * e) (length s.args.work.now)) (sym c.before.power.ensures) p.6, p.3)
+    let w = c.requires.0 in
+    let p = c.requires.1 in
+    (w.1, w.3, record { factor = multiplier c.before.before.before.before.before.before.before.before; table = tabulated c }, w.5, p.2, omega arith, omega arith, subst (λ e. Fits (L c.before.before.before.before.before.before.before.before) ((c.args.d + 1) * e) (length c.args.work.now)) (sym c.power.ensures) p.6, p.3)
 
-weighed : (c : tie.After-leaves) → Step (L c.before.before.before.before.before.before.before.before.before) c.before.before.before.before.before.before.before.before.before.args.work.now c.leaves.new.0 (λ f g. Leaves (K (L c.before.before.before.before.before.before.before.before.before)) g (c.before.before.before.before.before.before.before.before.before.args.d + 1) 0 (2 ^ c.before.before.before.before.before.before.before.before.before.args.d) c.before.before.before.before.before.before.before.before.before.args.n (weights c.before.before.before.before.before.before.before.before.before) (factors c.before.before.before.before.before.before.before.before.before) (multiplier c.before.before.before.before.before.before.before.before.before))
+weighed : (c : tie.After-leaves) → Step (L c.before.before.before.before.before.before.before.before.before) c.args.work.now c.leaves.new.dst (λ f g. Leaves (K (L c.before.before.before.before.before.before.before.before.before)) g (c.args.d + 1) 0 (2 ^ c.args.d) c.args.n (weights c.before.before.before.before.before.before.before.before.before) (factors c.before.before.before.before.before.before.before.before.before) (multiplier c.before.before.before.before.before.before.before.before.before))
 weighed c =
-    let s = c.before.before.before.before.before.before.before.before.before in
-    subst (λ e. Step (L s) s.args.work.now c.leaves.new.0 (λ f g. Leaves (K (L s)) g (s.args.d + 1) 0 e s.args.n (weights s) (factors s) (multiplier s))) c.before.before.power.ensures (c.leaves.ensures (multiplier s) (tabulated c.before))
+    subst (λ e. Step (L c.before.before.before.before.before.before.before.before.before) c.args.work.now c.leaves.new.dst (λ f g. Leaves (K (L c.before.before.before.before.before.before.before.before.before)) g (c.args.d + 1) 0 e c.args.n (weights c.before.before.before.before.before.before.before.before.before) (factors c.before.before.before.before.before.before.before.before.before) (multiplier c.before.before.before.before.before.before.before.before.before))) c.power.ensures (c.leaves.ensures (multiplier c.before.before.before.before.before.before.before.before.before) (tabulated c.before))
 
 fold-requires : tie.Need-fold-requires
 fold-requires c κs =
-    let s = c.before.before.before.before.before.before.before.before.before.before.before.before in
-    let w = s.requires.0 in
-    let p = s.requires.1 in
+    let w = c.requires.0 in
+    let p = c.requires.1 in
     let t = weighed c.before.before.before in
-    (t.words, w.2, p.0, fits_le (L s) ((s.args.d + 1) * 2 ^ s.args.d) ((s.args.d + 1) * 2 ^ s.args.d) (omega arith) t.same p.6, p.5)
+    (t.words, w.2, p.0, fits_le (L c.before.before.before.before.before.before.before.before.before.before.before.before) ((c.args.d + 1) * 2 ^ c.args.d) ((c.args.d + 1) * 2 ^ c.args.d) (omega arith) t.same p.6, p.5)
 
 add-requires : tie.Need-add-requires
 add-requires c κs =
-    let s = c.before.before.before.before.before.before.before.before.before.before.before.before.before.before.before.before.before in
-    let w = s.requires.0 in
-    let p = s.requires.1 in
-    let t = c.before.before.before.before.fold.ensures in
-    (w.0, t.words, p.4, fits_le (L s) s.args.d ((s.args.d + 1) * 2 ^ s.args.d) (omega (arith, room-one (s.args.d + 1) s.args.d)) (t.same ∙ (weighed c.before.before.before.before.before.before.before.before).same) p.6)
+    let w = c.requires.0 in
+    let p = c.requires.1 in
+    let t = c.fold.ensures in
+    (w.0, t.words, p.4, fits_le (L c.before.before.before.before.before.before.before.before.before.before.before.before.before.before.before.before) c.args.d ((c.args.d + 1) * 2 ^ c.args.d) (omega (arith, room-one (c.args.d + 1) c.args.d)) (t.same ∙ (weighed c.before.before.before.before.before.before.before).same) p.6)
 
-same_length : tie.Need-same-length
-same_length c = search rules
+shape_of-dst : tie.Need-shape_of-dst
+shape_of-dst c = search rules
 
-same-length-2 : tie.Need-same-length-2
-same-length-2 c = c.before.before.before.before.before.before.before.fold.ensures.same ∙ (weighed c.before.before.before.before.before.before.before.before.before.before.before).same
+shape_of-work : tie.Need-shape_of-work
+shape_of-work c = c.fold.ensures.same ∙ (weighed c.before.before.before.before.before.before.before.before.before.before).same
 
 returns : tie.Need-returns
 returns c =
-    let s = c.before.before.before.before.before.before.before.before.before.before.before.before.before.before.before.before.before.before.before.before in
-    let k = K (L s) in
-    let r = c.before.before.add in
-    let t = c.before.before.before.before.before.before.before.fold in
-    let v = weighed c.before.before.before.before.before.before.before.before.before.before.before in (
+    let k = K (L c.before.before.before.before.before.before.before.before.before.before.before.before.before.before.before.before.before.before.before) in
+    let r = c.add in
+    let t = c.fold in
+    let v = weighed c.before.before.before.before.before.before.before.before.before.before in (
       record {
         same = r.ensures.same;
         words = r.ensures.words;
-        holds = added_same k (el (L s) s.args.dst.now) (el (L s) r.new.0) (el (L s) t.new.0) (λ e. sum k s.args.n (λ j. k.mul (leaf k (weights s) (factors s) (multiplier s) j) (term s j e))) s.args.d
-            (λ e h. t.ensures.holds e (omega arith) ∙ leaves_sum k (el (L s) c.before.before.before.before.before.before.before.before.before.before.before.leaves.new.0) (s.args.d + 1) (2 ^ s.args.d) s.args.n (weights s) (factors s) (multiplier s) (λ j. term s j e) s.requires.1.1 v.holds) r.ensures.holds;
+        holds = added_same k (el (L c.before.before.before.before.before.before.before.before.before.before.before.before.before.before.before.before.before.before.before) c.args.dst.now) (el (L c.before.before.before.before.before.before.before.before.before.before.before.before.before.before.before.before.before.before.before) r.new.dst) (el (L c.before.before.before.before.before.before.before.before.before.before.before.before.before.before.before.before.before.before.before) t.new.buf) (λ e. sum k c.args.n (λ j. k.mul (leaf k (weights c.before.before.before.before.before.before.before.before.before.before.before.before.before.before.before.before.before.before.before) (factors c.before.before.before.before.before.before.before.before.before.before.before.before.before.before.before.before.before.before.before) (multiplier c.before.before.before.before.before.before.before.before.before.before.before.before.before.before.before.before.before.before.before) j) (term c.before.before.before.before.before.before.before.before.before.before.before.before.before.before.before.before.before.before.before j e))) c.args.d
+            (λ e h. t.ensures.holds e (omega arith) ∙ leaves_sum k (el (L c.before.before.before.before.before.before.before.before.before.before.before.before.before.before.before.before.before.before.before) c.leaves.new.dst) (c.args.d + 1) (2 ^ c.args.d) c.args.n (weights c.before.before.before.before.before.before.before.before.before.before.before.before.before.before.before.before.before.before.before) (factors c.before.before.before.before.before.before.before.before.before.before.before.before.before.before.before.before.before.before.before) (multiplier c.before.before.before.before.before.before.before.before.before.before.before.before.before.before.before.before.before.before.before) (λ j. term c.before.before.before.before.before.before.before.before.before.before.before.before.before.before.before.before.before.before.before j e) c.requires.1.1 v.holds) r.ensures.holds;
       },
       t.ensures.words,
     )
 
-pub row-spec : {M : Type 1} → statement M
-row-spec =
+pub row_spec : {M : Type 1} → statement M
+row_spec =
     tie.close
     (tie.spec
-    add-leaves
+    overflow_add-d
     power-requires
     of-requires
     leaves-requires
     fold-requires
     add-requires
-    same_length
-    same-length-2
+    shape_of-dst
+    shape_of-work
     returns)

@@ -12,65 +12,61 @@ use Rattle.row.proofs.ElementLaws.{fits_le}
 use Rattle.folding.proofs.values.total.Statement.{statement}
 use Rattle.folding.proofs.values.total.Tie as tie
 
-abbrev invariant-loop : tie.invariant-loop
-invariant-loop src n level all₀ j₀ all j = (j ≤ n) × Holds (level_at level) all.words (sum (K (level_at level)) j (el (level_at level) src))
+abbrev invariant-loop-j : tie.invariant-loop-j
+invariant-loop-j src n level all₀ j₀ all j = (j ≤ n) × Holds (level_at level) all.words (sum (K (level_at level)) j (el (level_at level) src))
 
-abbrev decreases-loop : tie.decreases-loop
-decreases-loop src n level all₀ j₀ all j = n - j
+abbrev decreases-loop-j : tie.decreases-loop-j
+decreases-loop-j src n level all₀ j₀ all j = n - j
 
-abbrev L : tie.Start invariant-loop decreases-loop → Level
+abbrev L : tie.Start invariant-loop-j decreases-loop-j → Level
 L s = level_at s.args.level
 
-abbrev terms : (s : tie.Start invariant-loop decreases-loop) → ℕ → (K (L s)).Carrier
+abbrev terms : (s : tie.Start invariant-loop-j decreases-loop-j) → ℕ → (K (L s)).Carrier
 terms s = el (L s) s.args.src.now
 
-zero-requires : tie.Need-zero-requires invariant-loop decreases-loop
-zero-requires c κs = search rules
+zero-all-requires : tie.Need-zero-all-requires invariant-loop-j decreases-loop-j
+zero-all-requires c κs = search rules
 
-loop-holds : tie.Need-loop-init invariant-loop decreases-loop
-loop-holds c =
-    let s = c.before.before in
-    (omega arith, subst (Holds (L s) c.zero.result.words) (sym (sum-none (K (L s)) (terms s))) c.zero.ensures)
+loop-j-init : tie.Need-loop-j-init invariant-loop-j decreases-loop-j
+loop-j-init c =
+    (omega arith, subst (Holds (L c.before.before) c.zero-all.result.words) (sym (sum-none (K (L c.before.before)) (terms c.before.before))) c.zero-all.ensures)
 
-get-requires : tie.Need-get-requires invariant-loop decreases-loop
+get-requires : tie.Need-get-requires invariant-loop-j decreases-loop-j
 get-requires c κs =
-    let s = c.before.before.before.before in
-    (s.requires.0, fits_le (L s) (c.before.loop.j + 1) s.args.n (omega (arith, c.loop-test.true)) refl s.requires.1)
+    (c.requires.0, fits_le (L c.before.before.before.before) (c.loop-j.j + 1) c.args.n (omega (arith, c.loop-j-test.true)) refl c.requires.1)
 
-plus-requires : tie.Need-plus-requires invariant-loop decreases-loop
-plus-requires c κs = search rules
+plus-all-requires : tie.Need-plus-all-requires invariant-loop-j decreases-loop-j
+plus-all-requires c κs = search rules
 
-add-j : tie.Need-overflow-add-j invariant-loop decreases-loop
-add-j c = search rules
+overflow_add-j : tie.Need-overflow_add-j invariant-loop-j decreases-loop-j
+overflow_add-j c = search rules
 
-loop-less : tie.Need-loop-smaller invariant-loop decreases-loop
-loop-less c = search rules
+loop-j-smaller : tie.Need-loop-j-smaller invariant-loop-j decreases-loop-j
+loop-j-smaller c = search rules
 
-loop-again : tie.Need-loop-preserved invariant-loop decreases-loop
-loop-again c =
-    let s = c.before.before.before.before.before.before in
-    let l = c.before.before.before.loop in
-    let k = K (L s) in
-    (omega arith, subst (Holds (L s) c.plus.result.words) (sum_more k l.j (terms s)) (c.plus.ensures (sum k l.j (terms s)) (terms s l.j) l.invariant.1 c.before.get.ensures))
+loop-j-preserved : tie.Need-loop-j-preserved invariant-loop-j decreases-loop-j
+loop-j-preserved c =
+    let l = c.loop-j in
+    let k = K (L c.before.before.before.before.before.before) in
+    (omega arith, subst (Holds (L c.before.before.before.before.before.before) c.plus-all.result.words) (sum_more k l.j (terms c.before.before.before.before.before.before)) (c.plus-all.ensures (sum k l.j (terms c.before.before.before.before.before.before)) (terms c.before.before.before.before.before.before l.j) l.invariant.1 c.get.ensures))
 
-returns : tie.Need-returns invariant-loop decreases-loop
+returns : tie.Need-returns invariant-loop-j decreases-loop-j
 returns c =
-    let l = c.before.loop in
-    let s = c.before.before.before.before in
-    let done : l.j ≡ s.args.n = omega arith in
-    subst (λ j. Holds (L s) l.all.words (sum (K (L s)) j (terms s))) done l.invariant.1
+    let l = c.loop-j in
+    let done : l.j ≡ c.args.n = omega arith in
+    subst (λ j. Holds (L c.before.before.before.before) l.all.words (sum (K (L c.before.before.before.before)) j (terms c.before.before.before.before))) done l.invariant.1
 
-pub total-spec : {M : Type 1} → statement M
-total-spec =
+pub total_spec : {M : Type 1} → statement M
+total_spec =
     tie.close
     (tie.spec
-    invariant-loop
-    decreases-loop
-    zero-requires
-    loop-holds
+    invariant-loop-j
+    decreases-loop-j
+    zero-all-requires
+    loop-j-init
     get-requires
-    plus-requires
-    add-j
-    loop-less
-    loop-again
+    plus-all-requires
+    overflow_add-j
+    loop-j-smaller
+    loop-j-preserved
     returns)

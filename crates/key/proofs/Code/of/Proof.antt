@@ -16,14 +16,19 @@ none zero h g = refl
 none (suc zero) h g = absurd (g refl)
 none (suc (suc k)) h g = absurd (omega arith)
 
+returns-then-number-gt1 : tie.Need-returns-then-number-gt1
+returns-then-number-gt1 c = large c.args.number c.if-number-gt1.true
+
+returns-then-number-eq1 : tie.Need-returns-then-number-eq1
+returns-then-number-eq1 c = ap code_at (sym c.if-number-eq1.true)
+
 returns : tie.Need-returns
-returns c = large c.before.args.number c.if1.true
-
-returns-2 : tie.Need-returns-2
-returns-2 c = ap code_at (sym c.if2.true)
-
-returns-3 : tie.Need-returns-3
-returns-3 c = none c.before.before.args.number c.before.if1.false c.if2.false
+returns c = none c.args.number c.if-number-gt1.false c.if-number-eq1.false
 
 pub of_spec : {M : Type 1} → statement M
-of_spec = tie.close (tie.spec returns returns-2 returns-3)
+of_spec =
+    tie.close
+    (tie.spec
+    returns-then-number-gt1
+    returns-then-number-eq1
+    returns)

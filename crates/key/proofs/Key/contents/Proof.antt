@@ -19,35 +19,41 @@ use Rattle.key.proofs.Key.contents.Tie as tie
 excess-requires : tie.Need-excess-requires
 excess-requires c κs = search rules
 
-returns : tie.Need-returns
-returns c =
-    let a = c.before.before.before.before.before.args in
-    sym (stop 4 ((short (level_at a.level) a.self.n a.self.m a.h.now, 15) ∷ []) (ap not (sym c.before.excess.ensures ∙ ne_eqb c.before.excess.result 0 c.if1.true)))
+returns-then-excess-ne0 : tie.Need-returns-then-excess-ne0
+returns-then-excess-ne0 c =
+    let a = c.args in
+    sym (stop 4 ((short (level_at a.level) a.self.n a.self.m a.h.now, 15) ∷ []) (ap not (sym c.excess.ensures ∙ ne_eqb c.excess.result 0 c.if-excess-ne0.true)))
 
 -- past the elements' row
-within : (c : tie.Else1) → let a = c.before.before.before.before.before.args in key_within (level_at a.level) (key_slices a.h.now a.x.now a.y.now) ≡ true
-within c = sym c.before.excess.ensures ∙ eq-eqb c.before.excess.result 0 c.if1.false
+within : (c : tie.Else-excess-ne0) → let a = c.args in key_within (level_at a.level) (key_slices a.h.now a.x.now a.y.now) ≡ true
+within c = sym c.excess.ensures ∙ eq-eqb c.excess.result 0 c.if-excess-ne0.false
 
 short-requires : tie.Need-short-requires
 short-requires c κs =
-    let s = c.before.before.before.before.before in
-    let a = s.args in
+    let a = c.args in
     let w = each_within (level_at a.level) (a.h.now ∷ a.x.now ∷ a.y.now ∷ []) (within c) in
-    (s.requires.1, s.requires.2, omega (arith, s.requires.0.fewer), s.requires.0.most, λ k. omega (arith, w.0 k, (bounded a.level).limit))
+    (c.requires.1, c.requires.2, omega (arith, c.requires.0.fewer), c.requires.0.most, λ k. omega (arith, w.0 k, (bounded a.level).limit))
 
 -- past that row, the rank decides
 by_rank : (l : Level) (key : Key) (lent : KeySlices) {b : Bool} → key_within l lent ≡ true → b ≡ short l key.n key.m lent.h → first_of ((b, 15) ∷ []) ≡ first_of (contents l key lent)
 by_rank l key lent e f = λ t. first_of ((not (sym e t), 4) ∷ (f t, 15) ∷ [])
 
-returns-2 : tie.Need-returns-2
-returns-2 c =
-    let a = c.before.before.before.before.before.before.before.args in
-    by_rank (level_at a.level) a.self (key_slices a.h.now a.x.now a.y.now) {b = true} (within c.before.before) (sym c.if2.true ∙ c.before.short.ensures)
+returns-then-short : tie.Need-returns-then-short
+returns-then-short c =
+    let a = c.args in
+    by_rank (level_at a.level) a.self (key_slices a.h.now a.x.now a.y.now) {b = true} (within c.before.before) (sym c.if-short.true ∙ c.short.ensures)
 
-returns-3 : tie.Need-returns-3
-returns-3 c =
-    let a = c.before.before.before.before.before.before.before.args in
-    by_rank (level_at a.level) a.self (key_slices a.h.now a.x.now a.y.now) {b = false} (within c.before.before) (sym c.if2.false ∙ c.before.short.ensures)
+returns-else-short : tie.Need-returns-else-short
+returns-else-short c =
+    let a = c.args in
+    by_rank (level_at a.level) a.self (key_slices a.h.now a.x.now a.y.now) {b = false} (within c.before.before) (sym c.if-short.false ∙ c.short.ensures)
 
-pub contents-spec : {M : Type 1} → statement M
-contents-spec = tie.close (tie.spec excess-requires returns short-requires returns-2 returns-3)
+pub contents_spec : {M : Type 1} → statement M
+contents_spec =
+    tie.close
+    (tie.spec
+    excess-requires
+    returns-then-excess-ne0
+    short-requires
+    returns-then-short
+    returns-else-short)

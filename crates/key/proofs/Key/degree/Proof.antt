@@ -7,18 +7,24 @@ use borrow.Author.Rules.{rules}
 use Rattle.key.proofs.Key.degree.Statement.{statement}
 use Rattle.key.proofs.Key.degree.Tie as tie
 
-sub-last : tie.Need-overflow-sub-last
-sub-last c = search rules
+overflow_sub-last : tie.Need-overflow_sub-last
+overflow_sub-last c = search rules
 
-sub-result : tie.Need-overflow-sub-result
-sub-result c = omega (arith, leading_le 64 (c.before.args.self.n - 1))
+overflow_sub-result : tie.Need-overflow_sub-result
+overflow_sub-result c = omega (arith, leading_le 64 (c.args.self.n - 1))
 
-cast-result : tie.Need-overflow-cast-result
-cast-result c = search rules
+overflow_cast-result : tie.Need-overflow_cast-result
+overflow_cast-result c = search rules
 
 returns : tie.Need-returns
 unfolding degree
 returns c = refl
 
-pub degree-spec : {M : Type 1} → statement M
-degree-spec = tie.close (tie.spec sub-last sub-result cast-result returns)
+pub degree_spec : {M : Type 1} → statement M
+degree_spec =
+    tie.close
+    (tie.spec
+    overflow_sub-last
+    overflow_sub-result
+    overflow_cast-result
+    returns)

@@ -46,78 +46,78 @@ small {n} {m} {d} k =
       proof = mul-le-mul k.w_le k.d-le;
     }
 
-known : (c : tie.After-of) → let k = c.before.before.args.self in Known k.n k.m c.before.degree.result c.of.result.coordinates
+known : (c : tie.After-of-w) → let k = c.args.self in Known k.n k.m c.degree-d.result c.of-w.result.coordinates
 known c =
-    let a = c.before.before.args in
+    let a = c.args in
     let b = bounded a.level in
-    let s = c.before.before.requires in
+    let s = c.requires in
     record {
       n-le = omega (arith, b.most, s.most);
       m-le = omega (arith, b.most, s.most, s.fewer);
-      d-some = omega (arith, c.before.degree.ensures, degree-some a.self.n s.two (omega (arith, b.most, s.most)));
-      d-le = omega (arith, c.before.degree.ensures, degree-lt a.self.n 8 (omega (arith, s.two)) (omega (arith, b.most, s.most)) (omega (arith, b.most, s.most)));
-      w_le = subst (λ (l : Level). l.coordinates ≤ 32) (sym c.of.ensures) (omega (arith, b.narrow));
+      d-some = omega (arith, c.degree-d.ensures, degree-some a.self.n s.two (omega (arith, b.most, s.most)));
+      d-le = omega (arith, c.degree-d.ensures, degree-lt a.self.n 8 (omega (arith, s.two)) (omega (arith, b.most, s.most)) (omega (arith, b.most, s.most)));
+      w_le = subst (λ (l : Level). l.coordinates ≤ 32) (sym c.of-w.ensures) (omega (arith, b.narrow));
     }
 
-degree-requires : tie.Need-degree-requires
-degree-requires c κs = omega (arith, c.requires.two)
+degree-d-requires : tie.Need-degree-d-requires
+degree-d-requires c κs = omega (arith, c.requires.two)
 
-of-requires : tie.Need-of-requires
-of-requires c κs = search rules
+of-w-requires : tie.Need-of-w-requires
+of-w-requires c κs = search rules
 
-mul-bits : tie.Need-overflow-mul-bits
-mul-bits c = record { fits = omega (arith, (small (known c)).bits) }
+overflow_mul-bits : tie.Need-overflow_mul-bits
+overflow_mul-bits c = record { fits = omega (arith, (small (known c)).bits) }
 
-add-size : tie.Need-overflow-add-size
-add-size c = omega (arith, (known c).n-le, (known c).m-le)
+overflow_add-size : tie.Need-overflow_add-size
+overflow_add-size c = omega (arith, (known c).n-le, (known c).m-le)
 
-mul-t10 : tie.Need-overflow-mul-t10
-mul-t10 c = record { fits = omega (arith, (small (known c)).matrix) }
+overflow_mul-result : tie.Need-overflow_mul-result
+overflow_mul-result c = record { fits = omega (arith, (small (known c)).matrix) }
 
-mul-t11 : tie.Need-overflow-mul-t11
-mul-t11 c = record { fits = omega (arith, (small (known c)).elements) }
+overflow_mul-result-2 : tie.Need-overflow_mul-result-2
+overflow_mul-result-2 c = record { fits = omega (arith, (small (known c)).elements) }
 
-add-t12 : tie.Need-overflow-add-t12
-add-t12 c = omega (arith, (known c).d-le)
+overflow_add-result : tie.Need-overflow_add-result
+overflow_add-result c = omega (arith, (known c).d-le)
 
-mul-t13 : tie.Need-overflow-mul-t13
-mul-t13 c = record { fits = omega (arith, (small (known c)).coefficients) }
+overflow_mul-result-3 : tie.Need-overflow_mul-result-3
+overflow_mul-result-3 c = record { fits = omega (arith, (small (known c)).coefficients) }
 
-mul-t14 : tie.Need-overflow-mul-t14
-mul-t14 c = record { fits = omega (arith, (small (known c)).polynomials) }
+overflow_mul-result-4 : tie.Need-overflow_mul-result-4
+overflow_mul-result-4 c = record { fits = omega (arith, (small (known c)).polynomials) }
 
-mul-t15 : tie.Need-overflow-mul-t15
-mul-t15 c = record { fits = omega (arith, (small (known c)).values) }
+overflow_mul-result-5 : tie.Need-overflow_mul-result-5
+overflow_mul-result-5 c = record { fits = omega (arith, (small (known c)).values) }
 
-sub-t16 : tie.Need-overflow-sub-t16
-sub-t16 c = (known c).d-some
+overflow_sub-result : tie.Need-overflow_sub-result
+overflow_sub-result c = (known c).d-some
 
-mul-t17 : tie.Need-overflow-mul-t17
-mul-t17 c = record { fits = omega (arith, (small (known c)).masks) }
+overflow_mul-result-6 : tie.Need-overflow_mul-result-6
+overflow_mul-result-6 c = record { fits = omega (arith, (small (known c)).masks) }
 
-mul-t18 : tie.Need-overflow-mul-t18
-mul-t18 c = record { fits = omega (arith, (small (known c)).proof) }
+overflow_mul-result-7 : tie.Need-overflow_mul-result-7
+overflow_mul-result-7 c = record { fits = omega (arith, (small (known c)).proof) }
 
 returns : tie.Need-returns
 returns c =
-    let k = c.before.before.args.self in
-    ap₂ (λ (d w : ℕ). record { matrix = k.m * k.n; vector = k.n; target = k.m; positions = k.n; bits = k.n * d; elements = w * (k.n * d); polynomials = w * ((k.n + k.m) * (d + 1)); values = w * (k.n + k.m); masks = w * (d - 1); proof = w * d; one = w }) c.before.degree.ensures (ap (λ (l : Level). l.coordinates) c.of.ensures)
+    let k = c.args.self in
+    ap₂ (λ (d w : ℕ). record { matrix = k.m * k.n; vector = k.n; target = k.m; positions = k.n; bits = k.n * d; elements = w * (k.n * d); polynomials = w * ((k.n + k.m) * (d + 1)); values = w * (k.n + k.m); masks = w * (d - 1); proof = w * d; one = w }) c.degree-d.ensures (ap (λ (l : Level). l.coordinates) c.of-w.ensures)
 
-pub lengths-spec : {M : Type 1} → statement M
-lengths-spec =
+pub lengths_spec : {M : Type 1} → statement M
+lengths_spec =
     tie.close
     (tie.spec
-    degree-requires
-    of-requires
-    mul-bits
-    add-size
-    mul-t10
-    mul-t11
-    add-t12
-    mul-t13
-    mul-t14
-    mul-t15
-    sub-t16
-    mul-t17
-    mul-t18
+    degree-d-requires
+    of-w-requires
+    overflow_mul-bits
+    overflow_add-size
+    overflow_mul-result
+    overflow_mul-result-2
+    overflow_add-result
+    overflow_mul-result-3
+    overflow_mul-result-4
+    overflow_mul-result-5
+    overflow_sub-result
+    overflow_mul-result-6
+    overflow_mul-result-7
     returns)

@@ -21,43 +21,52 @@ abbrev rows : Key → List (Bool × ℕ)
 rows k = (eqb k.m 0, 2) ∷ last k
 
 -- past the rows of n
-passed : (c : tie.After-enum-told2) → let a = c.before.before.before.args in first_of (sizes (level_at a.level) a.self) ≡ first_of (rows a.self)
+passed : (c : tie.In_default) → let a = c.args in first_of (sizes (level_at a.level) a.self) ≡ first_of (rows a.self)
 passed c =
-    let a = c.before.before.before.args in
-    after-done (size_n (level_at a.level) a.self.n) (rows a.self) (sym c.before.before.size-n.ensures ∙ c.enum-told2.given.1)
+    let a = c.args in
+    after-done (size_n (level_at a.level) a.self.n) (rows a.self) (sym c.size_n-size.ensures ∙ c.in_default.is)
 
 -- past the first of m
-past : (c : tie.Else1) → let a = c.before.before.before.before.args in first_of (sizes (level_at a.level) a.self) ≡ first_of (last a.self)
-past c = let a = c.before.before.before.before.args in passed c.before ∙ pass 2 (last a.self) (ne_eqb a.self.m 0 c.if1.false)
+past : (c : tie.Else-m-eq0) → let a = c.args in first_of (sizes (level_at a.level) a.self) ≡ first_of (last a.self)
+past c = let a = c.args in passed c.before ∙ pass 2 (last a.self) (ne_eqb a.self.m 0 c.if-m-eq0.false)
 
-size-n-requires : tie.Need-size-n-requires
-size-n-requires c κs = search rules
+size_n-size-requires : tie.Need-size_n-size-requires
+size_n-size-requires c κs = search rules
 
-enum_told : tie.Need-enum-told
-enum_told c = search rules
+enum_told-1 : tie.Need-enum_told-1
+enum_told-1 c = search rules
+
+returns-in-Refused : tie.Need-returns-in-Refused
+returns-in-Refused c =
+    let a = c.args in
+    after-refused (size_n (level_at a.level) a.self.n) (rows a.self) c.size_n-size.ensures c.in-Refused.is
+
+enum_told-in_default : tie.Need-enum_told-in_default
+enum_told-in_default c = search rules
+
+returns-then-m-eq0 : tie.Need-returns-then-m-eq0
+returns-then-m-eq0 c =
+    let k = c.args.self in
+    sym (passed c.before ∙ stop 2 (last k) (eq-eqb k.m 0 c.if-m-eq0.true))
+
+returns-then-n-m : tie.Need-returns-then-n-m
+returns-then-n-m c =
+    let k = c.args.self in
+    sym (past c.before ∙ stop 2 [] (le-leb k.n k.m c.if-n-m.true))
 
 returns : tie.Need-returns
 returns c =
-    let a = c.before.before.before.args in
-    after-refused (size_n (level_at a.level) a.self.n) (rows a.self) c.before.before.size-n.ensures c.enum_told.given.1
+    let k = c.args.self in
+    sym (past c.before ∙ pass 2 [] (lt-leb k.n k.m c.if-n-m.false))
 
-enum-told-2 : tie.Need-enum-told-2
-enum-told-2 c = search rules
-
-returns-2 : tie.Need-returns-2
-returns-2 c =
-    let k = c.before.before.before.before.args.self in
-    sym (passed c.before ∙ stop 2 (last k) (eq-eqb k.m 0 c.if1.true))
-
-returns-3 : tie.Need-returns-3
-returns-3 c =
-    let k = c.before.before.before.before.before.args.self in
-    sym (past c.before ∙ stop 2 [] (le-leb k.n k.m c.if2.true))
-
-returns-4 : tie.Need-returns-4
-returns-4 c =
-    let k = c.before.before.before.before.before.args.self in
-    sym (past c.before ∙ pass 2 [] (lt-leb k.n k.m c.if2.false))
-
-pub sizes-spec : {M : Type 1} → statement M
-sizes-spec = tie.close (tie.spec size-n-requires enum_told returns enum-told-2 returns-2 returns-3 returns-4)
+pub sizes_spec : {M : Type 1} → statement M
+sizes_spec =
+    tie.close
+    (tie.spec
+    size_n-size-requires
+    enum_told-1
+    returns-in-Refused
+    enum_told-in_default
+    returns-then-m-eq0
+    returns-then-n-m
+    returns)

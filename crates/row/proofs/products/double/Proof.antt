@@ -15,84 +15,80 @@ use Rattle.row.proofs.NumberLaws.{row-le, row_next}
 use Rattle.row.proofs.products.double.Statement.{statement}
 use Rattle.row.proofs.products.double.Tie as tie
 
-abbrev invariant-loop : tie.invariant-loop
-invariant-loop buf₀ n h s w multiples level half a₀ p₀ buf a p =
+abbrev invariant-loop-p : tie.invariant-loop-p
+invariant-loop-p buf₀ n h s w multiples level half a₀ p₀ buf a p =
     (p ≤ h) × (a ≡ n * p) × (length buf ≡ length buf₀) × Words (level_at level) buf
     × ((y : (K (level_at level)).Carrier) → Multiplies (level_at level) multiples y → Doubled (K (level_at level)) (el (level_at level) buf₀) (el (level_at level) buf) n h s (odd w) y p)
 
-abbrev decreases-loop : tie.decreases-loop
-decreases-loop buf₀ n h s w multiples level half a₀ p₀ buf a p = h - p
+abbrev decreases-loop-p : tie.decreases-loop-p
+decreases-loop-p buf₀ n h s w multiples level half a₀ p₀ buf a p = h - p
 
-abbrev L : tie.Start invariant-loop decreases-loop → Level
+abbrev L : tie.Start invariant-loop-p decreases-loop-p → Level
 L s = level_at s.args.level
 
-mul-half : tie.Need-overflow-mul-half invariant-loop decreases-loop
-mul-half c = omega arith
+overflow_mul-half : tie.Need-overflow_mul-half invariant-loop-p decreases-loop-p
+overflow_mul-half c = omega arith
 
-loop-holds : tie.Need-loop-init invariant-loop decreases-loop
-loop-holds c =
-    let s = c.before in
-    (omega arith, sym (mul-zero s.args.n), refl, s.requires.0, λ y t. doubled_none (K (L s)) (el (L s) s.args.buf.now) s.args.n s.args.h s.args.s (odd s.args.w) y)
+loop-p-init : tie.Need-loop-p-init invariant-loop-p decreases-loop-p
+loop-p-init c =
+    (omega arith, sym (mul-zero c.args.n), refl, c.requires.0, λ y t. doubled_none (K (L c.before)) (el (L c.before) c.args.buf.now) c.args.n c.args.h c.args.s (odd c.args.w) y)
 
-inside : (c : tie.In-loop invariant-loop decreases-loop) → c.before.loop.a + c.before.before.before.args.n ≤ c.before.before.before.args.n * c.before.before.before.args.h
-inside c = omega (arith, c.before.loop.invariant.1, row-le c.before.before.before.args.n c.before.loop.p c.before.before.before.args.h c.loop-test.true)
+inside : (c : tie.In-loop-p invariant-loop-p decreases-loop-p) → c.loop-p.a + c.args.n ≤ c.args.n * c.args.h
+inside c = omega (arith, c.loop-p.invariant.1, row-le c.args.n c.loop-p.p c.args.h c.loop-p-test.true)
 
-add-split : tie.Need-overflow-add-split invariant-loop decreases-loop
-add-split c = omega (arith, inside c.before, c.before.before.before.before.requires.4.1, c.before.before.before.before.well-formed)
+overflow_add-a : tie.Need-overflow_add-a invariant-loop-p decreases-loop-p
+overflow_add-a c = omega (arith, inside c.before, c.requires.4.1, c.well_formed)
 
-split-requires : tie.Need-split-requires invariant-loop decreases-loop
+split-requires : tie.Need-split-requires invariant-loop-p decreases-loop-p
 split-requires c κs =
-    let s = c.before.before.before.before in
-    let l = c.before.before.loop in
-    (l.invariant.3, s.requires.1, s.requires.2, omega (arith, inside c.before, s.requires.3), fits_le (L s) (l.a + s.args.n * s.args.h + s.args.s + 1) (s.args.n * s.args.h + s.args.n * s.args.h) (omega (arith, inside c.before, s.requires.3)) l.invariant.2 s.requires.4)
+    let l = c.loop-p in
+    (l.invariant.3, c.requires.1, c.requires.2, omega (arith, inside c.before, c.requires.3), fits_le (L c.before.before.before.before) (l.a + c.args.n * c.args.h + c.args.s + 1) (c.args.n * c.args.h + c.args.n * c.args.h) (omega (arith, inside c.before, c.requires.3)) l.invariant.2 c.requires.4)
 
-add_a : tie.Need-overflow-add-a invariant-loop decreases-loop
-add_a c = omega (arith, inside c.before.before.before.before, c.before.before.before.before.before.before.before.requires.4.1, c.before.before.before.before.before.before.before.well-formed)
+overflow_add-a-in-loop-p : tie.Need-overflow_add-a-in-loop-p invariant-loop-p decreases-loop-p
+overflow_add-a-in-loop-p c = omega (arith, inside c.before.before.before.before, c.requires.4.1, c.well_formed)
 
-add-p : tie.Need-overflow-add-p invariant-loop decreases-loop
-add-p c = omega (arith, c.before.before.before.before.loop-test.true, c.before.before.before.before.before.before.before.ranges.h)
+overflow_add-p : tie.Need-overflow_add-p invariant-loop-p decreases-loop-p
+overflow_add-p c = omega (arith, c.loop-p-test.true, c.ranges.h)
 
-loop-less : tie.Need-loop-smaller invariant-loop decreases-loop
-loop-less c = omega (arith, c.before.before.before.before.loop-test.true)
+loop-p-smaller : tie.Need-loop-p-smaller invariant-loop-p decreases-loop-p
+loop-p-smaller c = omega (arith, c.loop-p-test.true)
 
-loop-again : tie.Need-loop-preserved invariant-loop decreases-loop
-loop-again c =
-    let s = c.before.before.before.before.before.before.before in
-    let l = c.before.before.before.before.before.loop in
-    let r = c.before.before.split in
-    let some = r.ensures s.requires.1.factor s.requires.1.table in
-    let far : l.a + s.args.n * s.args.h ≡ s.args.n * (l.p + s.args.h) = ap (λ x. x + s.args.n * s.args.h) l.invariant.1 ∙ sym (mul-add s.args.n l.p s.args.h) in (
-      omega (arith, c.before.before.before.before.loop-test.true),
-      omega (arith, l.invariant.1, row_next s.args.n l.p),
+loop-p-preserved : tie.Need-loop-p-preserved invariant-loop-p decreases-loop-p
+loop-p-preserved c =
+    let l = c.loop-p in
+    let r = c.split in
+    let some = r.ensures c.requires.1.factor c.requires.1.table in
+    let far : l.a + c.args.n * c.args.h ≡ c.args.n * (l.p + c.args.h) = ap (λ x. x + c.args.n * c.args.h) l.invariant.1 ∙ sym (mul-add c.args.n l.p c.args.h) in (
+      omega (arith, c.loop-p-test.true),
+      omega (arith, l.invariant.1, row_next c.args.n l.p),
       some.same ∙ l.invariant.2,
       some.words,
-      λ y t. doubled_more (K (L s)) (el (L s) s.args.buf.now) (el (L s) l.buf) (el (L s) r.new.0) s.args.n s.args.h s.args.s (odd s.args.w) y l.p s.requires.3 c.before.before.before.before.loop-test.true (l.invariant.4 y t)
-          (subst₂ (λ a b. Factored (K (L s)) (el (L s) l.buf) (el (L s) r.new.0) a b s.args.s (odd s.args.w) y (s.args.s + 1)) l.invariant.1 far (r.ensures y t).holds),
+      λ y t. doubled_more (K (L c.before.before.before.before.before.before.before)) (el (L c.before.before.before.before.before.before.before) c.args.buf.now) (el (L c.before.before.before.before.before.before.before) l.buf) (el (L c.before.before.before.before.before.before.before) r.new.buf) c.args.n c.args.h c.args.s (odd c.args.w) y l.p c.requires.3 c.loop-p-test.true (l.invariant.4 y t)
+          (subst₂ (λ a b. Factored (K (L c.before.before.before.before.before.before.before)) (el (L c.before.before.before.before.before.before.before) l.buf) (el (L c.before.before.before.before.before.before.before) r.new.buf) a b c.args.s (odd c.args.w) y (c.args.s + 1)) l.invariant.1 far (r.ensures y t).holds),
     )
 
-same_length : tie.Need-same-length invariant-loop decreases-loop
-same_length c = c.before.loop.invariant.2
+shape_of-buf : tie.Need-shape_of-buf invariant-loop-p decreases-loop-p
+shape_of-buf c = c.loop-p.invariant.2
 
-returns : tie.Need-returns invariant-loop decreases-loop
+returns : tie.Need-returns invariant-loop-p decreases-loop-p
 returns c y t =
-    let l = c.before.loop in
-    let s = c.before.before.before in
-    let done : l.p ≡ s.args.h = omega arith in
-    record { same = l.invariant.2; words = l.invariant.3; holds = subst (Doubled (K (L s)) (el (L s) s.args.buf.now) (el (L s) l.buf) s.args.n s.args.h s.args.s (odd s.args.w) y) done (l.invariant.4 y t) }
+    let l = c.loop-p in
+    let done : l.p ≡ c.args.h = omega arith in
+    record { same = l.invariant.2; words = l.invariant.3; holds = subst (Doubled (K (L c.before.before.before)) (el (L c.before.before.before) c.args.buf.now) (el (L c.before.before.before) l.buf) c.args.n c.args.h c.args.s (odd c.args.w) y) done (l.invariant.4 y t) }
 
-pub double-spec : {M : Type 1} → statement M
-double-spec =
+pub double_spec : {M : Type 1} → statement M
+double_spec =
     tie.close
     (tie.spec
-    invariant-loop
-    decreases-loop
-    mul-half
-    loop-holds
-    add-split
+    invariant-loop-p
+    decreases-loop-p
+    overflow_mul-half
+    loop-p-init
+    overflow_add-a
     split-requires
-    add_a
-    add-p
-    loop-less
-    loop-again
-    same_length
+    overflow_add-a-in-loop-p
+    overflow_add-p
+    loop-p-smaller
+    loop-p-preserved
+    shape_of-buf
     returns)

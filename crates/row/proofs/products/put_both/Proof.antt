@@ -20,55 +20,51 @@ L s = level_at s.args.level
 abbrev term : (s : tie.Start) → Bool → (K (L s)).Carrier → (K (L s)).Carrier → (K (L s)).Carrier
 term s b u v = (K (L s)).add u ((K (L s)).mul (bit (K (L s)) b) v)
 
-sub-complement : tie.Need-overflow-sub-complement
-sub-complement c = search rules
+overflow_sub-complement : tie.Need-overflow_sub-complement
+overflow_sub-complement c = search rules
 
 masked-requires : tie.Need-masked-requires
 masked-requires c κs = search rules
 
-plus-requires : tie.Need-plus-requires
-plus-requires c κs = search rules
+plus-low-requires : tie.Need-plus-low-requires
+plus-low-requires c κs = search rules
 
 masked-requires-2 : tie.Need-masked-requires-2
 masked-requires-2 c κs = search rules
 
-plus-requires-2 : tie.Need-plus-requires-2
-plus-requires-2 c κs = search rules
+plus-high-requires : tie.Need-plus-high-requires
+plus-high-requires c κs = search rules
 
-low : (c : tie.After-plus) (u v : (K (L c.before.before.before)).Carrier) → Holds (L c.before.before.before) c.before.before.before.args.x.words u → Holds (L c.before.before.before) c.before.before.before.args.y.words v → Holds (L c.before.before.before) c.plus.result.words (term c.before.before.before (not (odd c.before.before.before.args.w)) u v)
+low : (c : tie.After-plus-low) (u v : (K (L c.before.before.before)).Carrier) → Holds (L c.before.before.before) c.args.x.words u → Holds (L c.before.before.before) c.args.y.words v → Holds (L c.before.before.before) c.plus-low.result.words (term c.before.before.before (not (odd c.args.w)) u v)
 low c u v p q =
-    let s = c.before.before.before in
-    subst (λ b. Holds (L s) c.plus.result.words (term s b u v)) (odd-not s.args.w s.requires.3) (c.plus.ensures u ((K (L s)).mul (bit (K (L s)) (odd (1 - s.args.w))) v) p (c.before.masked.ensures v q))
+    subst (λ b. Holds (L c.before.before.before) c.plus-low.result.words (term c.before.before.before b u v)) (odd-not c.args.w c.requires.3) (c.plus-low.ensures u ((K (L c.before.before.before)).mul (bit (K (L c.before.before.before)) (odd (1 - c.args.w))) v) p (c.masked.ensures v q))
 
-high : (c : tie.After-plus2) (u v : (K (L c.before.before.before.before.before)).Carrier) → Holds (L c.before.before.before.before.before) c.before.before.before.before.before.args.x.words u → Holds (L c.before.before.before.before.before) c.before.before.before.before.before.args.y.words v → Holds (L c.before.before.before.before.before) c.plus2.result.words (term c.before.before.before.before.before (odd c.before.before.before.before.before.args.w) u v)
+high : (c : tie.After-plus-high) (u v : (K (L c.before.before.before.before.before)).Carrier) → Holds (L c.before.before.before.before.before) c.args.x.words u → Holds (L c.before.before.before.before.before) c.args.y.words v → Holds (L c.before.before.before.before.before) c.plus-high.result.words (term c.before.before.before.before.before (odd c.args.w) u v)
 high c u v p q =
-    let s = c.before.before.before.before.before in
-    c.plus2.ensures u ((K (L s)).mul (bit (K (L s)) (odd s.args.w)) v) p (c.before.masked2.ensures v q)
+    c.plus-high.ensures u ((K (L c.before.before.before.before.before)).mul (bit (K (L c.before.before.before.before.before)) (odd c.args.w)) v) p (c.masked-2.ensures v q)
 
-put-two-requires : tie.Need-put-two-requires
-put-two-requires c κs =
-    let s = c.before.before.before.before.before.before in
-    let u = value_of (L s) s.args.x.words in
-    let v = value_of (L s) s.args.y.words in
-    (s.requires.0, holds-held (L s) c.before.before.before.plus.result.words (term s (not (odd s.args.w)) u v) (low c.before.before.before u v s.requires.1 s.requires.2), s.requires.4, s.requires.5)
+put_two-requires : tie.Need-put_two-requires
+put_two-requires c κs =
+    let u = value_of (L c.before.before.before.before.before.before) c.args.x.words in
+    let v = value_of (L c.before.before.before.before.before.before) c.args.y.words in
+    (c.requires.0, holds-held (L c.before.before.before.before.before.before) c.plus-low.result.words (term c.before.before.before.before.before.before (not (odd c.args.w)) u v) (low c.before.before.before u v c.requires.1 c.requires.2), c.requires.4, c.requires.5)
 
-same_length : tie.Need-same-length
-same_length c = search rules
+shape_of-buf : tie.Need-shape_of-buf
+shape_of-buf c = search rules
 
 returns : tie.Need-returns
 returns c u v p q =
-    let s = c.before.before.before.before.before.before.before.before.before in
-    c.before.before.put_two.ensures (term s (not (odd s.args.w)) u v) (term s (odd s.args.w) u v) (low c.before.before.before.before.before.before u v p q) (high c.before.before.before.before u v p q)
+    c.put_two.ensures (term c.before.before.before.before.before.before.before.before.before (not (odd c.args.w)) u v) (term c.before.before.before.before.before.before.before.before.before (odd c.args.w) u v) (low c.before.before.before.before.before.before u v p q) (high c.before.before.before.before u v p q)
 
-pub put-both-spec : {M : Type 1} → statement M
-put-both-spec =
+pub put_both_spec : {M : Type 1} → statement M
+put_both_spec =
     tie.close
     (tie.spec
-    sub-complement
+    overflow_sub-complement
     masked-requires
-    plus-requires
+    plus-low-requires
     masked-requires-2
-    plus-requires-2
-    put-two-requires
-    same_length
+    plus-high-requires
+    put_two-requires
+    shape_of-buf
     returns)

@@ -10,57 +10,56 @@ use Rattle.row.proofs.ValueLaws.{raise-none, raise_more}
 use Rattle.row.proofs.products.raised.Statement.{statement}
 use Rattle.row.proofs.products.raised.Tie as tie
 
-abbrev invariant-loop : tie.invariant-loop
-invariant-loop d level multiples power₀ i₀ power i = (i ≤ d) × ((y : (K (level_at level)).Carrier) → Multiplies (level_at level) multiples y → Holds (level_at level) power.words (raise (K (level_at level)) y i))
+abbrev invariant-loop-i : tie.invariant-loop-i
+invariant-loop-i d level multiples power₀ i₀ power i = (i ≤ d) × ((y : (K (level_at level)).Carrier) → Multiplies (level_at level) multiples y → Holds (level_at level) power.words (raise (K (level_at level)) y i))
 
-abbrev decreases-loop : tie.decreases-loop
-decreases-loop d level multiples power₀ i₀ power i = d - i
+abbrev decreases-loop-i : tie.decreases-loop-i
+decreases-loop-i d level multiples power₀ i₀ power i = d - i
 
-of-requires : tie.Need-of-requires invariant-loop decreases-loop
-of-requires c κs = search rules
+of-multiples-requires : tie.Need-of-multiples-requires invariant-loop-i decreases-loop-i
+of-multiples-requires c κs = search rules
 
-one-requires : tie.Need-one-requires invariant-loop decreases-loop
-one-requires c κs = search rules
+one-power-requires : tie.Need-one-power-requires invariant-loop-i decreases-loop-i
+one-power-requires c κs = search rules
 
-loop-holds : tie.Need-loop-init invariant-loop decreases-loop
-loop-holds c =
-    let l = level_at c.before.before.args.level in
-    (omega arith, λ y t. subst (Holds l c.one.result.words) (sym (raise-none (K l) y)) c.one.ensures)
+loop-i-init : tie.Need-loop-i-init invariant-loop-i decreases-loop-i
+loop-i-init c =
+    let l = level_at c.args.level in
+    (omega arith, λ y t. subst (Holds l c.one-power.result.words) (sym (raise-none (K l) y)) c.one-power.ensures)
 
-times-requires : tie.Need-times-requires invariant-loop decreases-loop
-times-requires c κs = search rules
+times-power-requires : tie.Need-times-power-requires invariant-loop-i decreases-loop-i
+times-power-requires c κs = search rules
 
-add-i : tie.Need-overflow-add-i invariant-loop decreases-loop
-add-i c = search rules
+overflow_add-i : tie.Need-overflow_add-i invariant-loop-i decreases-loop-i
+overflow_add-i c = search rules
 
-loop-less : tie.Need-loop-smaller invariant-loop decreases-loop
-loop-less c = search rules
+loop-i-smaller : tie.Need-loop-i-smaller invariant-loop-i decreases-loop-i
+loop-i-smaller c = search rules
 
-loop-again : tie.Need-loop-preserved invariant-loop decreases-loop
-loop-again c =
-    let l = level_at c.before.before.before.before.before.args.level in
-    let i = c.before.before.loop.i in
-    (omega arith, λ y t. subst (Holds l c.times.result.words) (raise_more (K l) y i) (c.times.ensures y (raise (K l) y i) t (c.before.before.loop.invariant.1 y t)))
+loop-i-preserved : tie.Need-loop-i-preserved invariant-loop-i decreases-loop-i
+loop-i-preserved c =
+    let l = level_at c.args.level in
+    let i = c.loop-i.i in
+    (omega arith, λ y t. subst (Holds l c.times-power.result.words) (raise_more (K l) y i) (c.times-power.ensures y (raise (K l) y i) t (c.loop-i.invariant.1 y t)))
 
-returns : tie.Need-returns invariant-loop decreases-loop
+returns : tie.Need-returns invariant-loop-i decreases-loop-i
 returns c =
-    let s = c.before.before.before.before in
-    let l = level_at s.args.level in
-    let y = value_of l s.args.delta.words in
-    let done : c.before.loop.i ≡ s.args.d = omega arith in
-    subst (λ i. Holds l c.before.loop.power.words (raise (K l) y i)) done (c.before.loop.invariant.1 y (c.before.before.before.of.ensures y s.requires))
+    let l = level_at c.args.level in
+    let y = value_of l c.args.delta.words in
+    let done : c.loop-i.i ≡ c.args.d = omega arith in
+    subst (λ i. Holds l c.loop-i.power.words (raise (K l) y i)) done (c.loop-i.invariant.1 y (c.of-multiples.ensures y c.requires))
 
-pub raised-spec : {M : Type 1} → statement M
-raised-spec =
+pub raised_spec : {M : Type 1} → statement M
+raised_spec =
     tie.close
     (tie.spec
-    invariant-loop
-    decreases-loop
-    of-requires
-    one-requires
-    loop-holds
-    times-requires
-    add-i
-    loop-less
-    loop-again
+    invariant-loop-i
+    decreases-loop-i
+    of-multiples-requires
+    one-power-requires
+    loop-i-init
+    times-power-requires
+    overflow_add-i
+    loop-i-smaller
+    loop-i-preserved
     returns)

@@ -17,148 +17,141 @@ use Rattle.row.proofs.NumberLaws.{many, pow_double, pow_room, room, room-one, di
 use Rattle.row.proofs.products.tree.Statement.{statement}
 use Rattle.row.proofs.products.tree.Tie as tie
 
-abbrev invariant-loop : tie.invariant-loop
-invariant-loop buf₀ position offsets at d level h₀ t₀ buf h t =
+abbrev invariant-loop-t : tie.invariant-loop-t
+invariant-loop-t buf₀ position offsets at d level h₀ t₀ buf h t =
     (t ≤ d) × (h ≡ 2 ^ t) × (length buf ≡ length buf₀) × Words (level_at level) buf
     × Products (K (level_at level)) d (digit d position) (λ k. el (level_at level) offsets (at + k)) (d + 1) (el (level_at level) buf) t
 
-abbrev decreases-loop : tie.decreases-loop
-decreases-loop buf₀ position offsets at d level h₀ t₀ buf h t = d - t
+abbrev decreases-loop-t : tie.decreases-loop-t
+decreases-loop-t buf₀ position offsets at d level h₀ t₀ buf h t = d - t
 
-abbrev L : tie.Start invariant-loop decreases-loop → Level
+abbrev L : tie.Start invariant-loop-t decreases-loop-t → Level
 L s = level_at s.args.level
 
-abbrev digits : tie.Start invariant-loop decreases-loop → ℕ → Bool
+abbrev digits : tie.Start invariant-loop-t decreases-loop-t → ℕ → Bool
 digits s = digit s.args.d s.args.position
 
-abbrev offsets : (s : tie.Start invariant-loop decreases-loop) → ℕ → (K (L s)).Carrier
+abbrev offsets : (s : tie.Start invariant-loop-t decreases-loop-t) → ℕ → (K (L s)).Carrier
 offsets s k = el (L s) s.args.offsets.now (s.args.at + k)
 
 -- the room in the buffer
-abbrev size : tie.Start invariant-loop decreases-loop → ℕ
+abbrev size : tie.Start invariant-loop-t decreases-loop-t → ℕ
 size s = (s.args.d + 1) * 2 ^ s.args.d
 
-one-requires : tie.Need-one-requires invariant-loop decreases-loop
+one-requires : tie.Need-one-requires invariant-loop-t decreases-loop-t
 one-requires c κs = search rules
 
-put-requires : tie.Need-put-requires invariant-loop decreases-loop
-put-requires c κs = (c.before.before.before.before.requires.0, fits_le (L c.before.before.before.before) 1 (size c.before.before.before.before) (omega (arith, room-one (c.before.before.before.before.args.d + 1) c.before.before.before.before.args.d)) refl c.before.before.before.before.requires.3)
+put-requires : tie.Need-put-requires invariant-loop-t decreases-loop-t
+put-requires c κs = (c.requires.0, fits_le (L c.before.before.before.before) 1 (size c.before.before.before.before) (omega (arith, room-one (c.args.d + 1) c.args.d)) refl c.requires.3)
 
-begun : (c : tie.After-put invariant-loop decreases-loop) → Step (L c.before.before.before.before.before) c.before.before.before.before.before.args.buf.now c.put.new.0 (λ f g. Put f g 0 (K (L c.before.before.before.before.before)).one)
-begun c = c.put.ensures (K (L c.before.before.before.before.before)).one c.before.one.ensures
+begun : (c : tie.After-put invariant-loop-t decreases-loop-t) → Step (L c.before.before.before.before.before) c.args.buf.now c.put.new.s (λ f g. Put f g 0 (K (L c.before.before.before.before.before)).one)
+begun c = c.put.ensures (K (L c.before.before.before.before.before)).one c.one.ensures
 
-loop-holds : tie.Need-loop-init invariant-loop decreases-loop
-loop-holds c =
-    let s = c.before.before.before.before.before.before.before in
+loop-t-init : tie.Need-loop-t-init invariant-loop-t decreases-loop-t
+loop-t-init c =
     let f = begun c.before.before in
-    (omega arith, refl, refl, f.words, products_none (K (L s)) s.args.d (digits s) (offsets s) (s.args.d + 1) (el (L s) c.before.before.put.new.0) f.holds.here)
+    (omega arith, refl, refl, f.words, products_none (K (L c.before.before.before.before.before.before.before)) c.args.d (digits c.before.before.before.before.before.before.before) (offsets c.before.before.before.before.before.before.before) (c.args.d + 1) (el (L c.before.before.before.before.before.before.before) c.put.new.s) f.holds.here)
 
-shr-w : tie.Need-overflow-shr-w invariant-loop decreases-loop
-shr-w c = omega (arith, c.before.before.before.before.before.before.before.before.before.requires.2, c.loop-test.true)
+overflow_shr-w : tie.Need-overflow_shr-w invariant-loop-t decreases-loop-t
+overflow_shr-w c = omega (arith, c.requires.2, c.loop-t-test.true)
 
-sub-get : tie.Need-overflow-sub-get invariant-loop decreases-loop
-sub-get c = omega (arith, c.loop-test.true)
+overflow_sub-d : tie.Need-overflow_sub-d invariant-loop-t decreases-loop-t
+overflow_sub-d c = omega (arith, c.loop-t-test.true)
 
-sub-get-2 : tie.Need-overflow-sub-get-2 invariant-loop decreases-loop
-sub-get-2 c = omega (arith, c.loop-test.true)
+overflow_sub-d-in-loop-t : tie.Need-overflow_sub-d-in-loop-t invariant-loop-t decreases-loop-t
+overflow_sub-d-in-loop-t c = omega (arith, c.loop-t-test.true)
 
-add-get : tie.Need-overflow-add-get invariant-loop decreases-loop
-add-get c = omega (arith, c.loop-test.true, c.before.before.before.before.before.before.before.before.before.requires.4.1, c.before.before.before.before.before.before.before.before.before.well-formed)
+overflow_add-at : tie.Need-overflow_add-at invariant-loop-t decreases-loop-t
+overflow_add-at c = omega (arith, c.loop-t-test.true, c.requires.4.1, c.well_formed)
 
-get-requires : tie.Need-get-requires invariant-loop decreases-loop
-get-requires c κs =
-    let s = c.before.before.before.before.before.before.before.before.before in
-    (s.requires.1, fits_le (L s) (s.args.at + (s.args.d - 1 - c.before.loop.t) + 1) (s.args.at + s.args.d) (omega (arith, c.loop-test.true)) refl s.requires.4)
+get-v-requires : tie.Need-get-v-requires invariant-loop-t decreases-loop-t
+get-v-requires c κs =
+    (c.requires.1, fits_le (L c.before.before.before.before.before.before.before.before.before) (c.args.at + (c.args.d - 1 - c.loop-t.t) + 1) (c.args.at + c.args.d) (omega (arith, c.loop-t-test.true)) refl c.requires.4)
 
-of-requires : tie.Need-of-requires invariant-loop decreases-loop
-of-requires c κs = search rules
+of-multiples-requires : tie.Need-of-multiples-requires invariant-loop-t decreases-loop-t
+of-multiples-requires c κs = search rules
 
-add-double : tie.Need-overflow-add-double invariant-loop decreases-loop
-add-double c = omega (arith, c.before.before.before.before.before.before.before.before.before.before.before.before.requires.2)
+overflow_add-d : tie.Need-overflow_add-d invariant-loop-t decreases-loop-t
+overflow_add-d c = omega (arith, c.requires.2)
 
-add-double-2 : tie.Need-overflow-add-double-2 invariant-loop decreases-loop
-add-double-2 c = omega (arith, c.before.before.before.before.before.before.before.before.before.before.before.before.requires.2, c.before.before.before.loop-test.true)
+overflow_add-t : tie.Need-overflow_add-t invariant-loop-t decreases-loop-t
+overflow_add-t c = omega (arith, c.requires.2, c.loop-t-test.true)
 
 -- the table of the digit's offset
-tabled : (c : tie.After-of invariant-loop decreases-loop) → Multiplies (L c.before.before.before.before.before.before.before.before.before.before.before) c.of.result (offsets c.before.before.before.before.before.before.before.before.before.before.before (c.before.before.before.before.before.before.before.before.before.before.before.args.d - 1 - c.before.before.before.loop.t))
+tabled : (c : tie.After-of-multiples invariant-loop-t decreases-loop-t) → Multiplies (L c.before.before.before.before.before.before.before.before.before.before.before) c.of-multiples.result (offsets c.before.before.before.before.before.before.before.before.before.before.before (c.args.d - 1 - c.loop-t.t))
 tabled c =
-    let s = c.before.before.before.before.before.before.before.before.before.before.before in
-    c.of.ensures (offsets s (s.args.d - 1 - c.before.before.before.loop.t)) c.before.get.ensures
+    c.of-multiples.ensures (offsets c.before.before.before.before.before.before.before.before.before.before.before (c.args.d - 1 - c.loop-t.t)) c.get-v.ensures
 
-double-requires : tie.Need-double-requires invariant-loop decreases-loop
+double-requires : tie.Need-double-requires invariant-loop-t decreases-loop-t
 double-requires c κs =
-    let s = c.before.before.before.before.before.before.before.before.before.before.before.before in
-    let l = c.before.before.before.before.loop in
-    let n = s.args.d + 1 in
+    let l = c.loop-t in
+    let n = c.args.d + 1 in
     let h : n * l.h ≡ n * 2 ^ l.t = ap (λ e. n * e) l.invariant.1 in (
       l.invariant.3,
-      record { factor = offsets s (s.args.d - 1 - l.t); table = tabled c.before },
+      record { factor = offsets c.before.before.before.before.before.before.before.before.before.before.before.before (c.args.d - 1 - l.t); table = tabled c.before },
       omega arith,
-      omega (arith, c.before.before.before.loop-test.true),
-      fits_le (L s) (n * l.h + n * l.h) (size s) (omega (arith, room n s.args.d l.t c.before.before.before.loop-test.true)) (l.invariant.2 ∙ (begun c.before.before.before.before.before.before.before).same) s.requires.3,
+      omega (arith, c.loop-t-test.true),
+      fits_le (L c.before.before.before.before.before.before.before.before.before.before.before.before) (n * l.h + n * l.h) (size c.before.before.before.before.before.before.before.before.before.before.before.before) (omega (arith, room n c.args.d l.t c.loop-t-test.true)) (l.invariant.2 ∙ (begun c.before.before.before.before.before.before.before).same) c.requires.3,
     )
 
-add-h : tie.Need-overflow-add-h invariant-loop decreases-loop
-add-h c =
-    let s = c.before.before.before.before.before.before.before.before.before.before.before.before.before.before.before in
-    let l = c.before.before.before.before.before.before.before.loop in
-    omega (arith, l.invariant.1, pow_room s.args.d l.t c.before.before.before.before.before.before.loop-test.true, many s.args.d (2 ^ s.args.d), s.requires.3.1, s.well-formed)
+overflow_add-h : tie.Need-overflow_add-h invariant-loop-t decreases-loop-t
+overflow_add-h c =
+    let l = c.loop-t in
+    omega (arith, l.invariant.1, pow_room c.args.d l.t c.loop-t-test.true, many c.args.d (2 ^ c.args.d), c.requires.3.1, c.well_formed)
 
-add-t : tie.Need-overflow-add-t invariant-loop decreases-loop
-add-t c = omega (arith, c.before.before.before.before.before.before.loop-test.true, c.before.before.before.before.before.before.before.before.before.before.before.before.before.before.before.requires.2)
+overflow_add-t-in-loop-t : tie.Need-overflow_add-t-in-loop-t invariant-loop-t decreases-loop-t
+overflow_add-t-in-loop-t c = omega (arith, c.loop-t-test.true, c.requires.2)
 
-loop-less : tie.Need-loop-smaller invariant-loop decreases-loop
-loop-less c = omega (arith, c.before.before.before.before.before.before.loop-test.true)
+loop-t-smaller : tie.Need-loop-t-smaller invariant-loop-t decreases-loop-t
+loop-t-smaller c = omega (arith, c.loop-t-test.true)
 
-loop-again : tie.Need-loop-preserved invariant-loop decreases-loop
-loop-again c =
-    let s = c.before.before.before.before.before.before.before.before.before.before.before.before.before.before.before in
-    let l = c.before.before.before.before.before.before.before.loop in
-    let r = c.before.before.double.ensures (offsets s (s.args.d - 1 - l.t)) (tabled c.before.before.before.before) in
-    let buf = c.before.before.double.new.0 in
-    let k = K (L s) in
-    let n = s.args.d + 1 in
-    let inside : l.t < s.args.d = c.before.before.before.before.before.before.loop-test.true in (
+loop-t-preserved : tie.Need-loop-t-preserved invariant-loop-t decreases-loop-t
+loop-t-preserved c =
+    let l = c.loop-t in
+    let r = c.double.ensures (offsets c.before.before.before.before.before.before.before.before.before.before.before.before.before.before.before (c.args.d - 1 - l.t)) (tabled c.before.before.before.before) in
+    let buf = c.double.new.buf in
+    let k = K (L c.before.before.before.before.before.before.before.before.before.before.before.before.before.before.before) in
+    let n = c.args.d + 1 in
+    let inside : l.t < c.args.d = c.loop-t-test.true in (
       omega arith,
       ap₂ ◌+◌ l.invariant.1 l.invariant.1 ∙ pow_double l.t,
       r.same ∙ l.invariant.2,
       r.words,
-      products_more k s.args.d (digits s) (offsets s) n (el (L s) l.buf) (el (L s) buf) l.t inside l.invariant.4
-          (subst₂ (λ h b. Doubled k (el (L s) l.buf) (el (L s) buf) n h (l.t + 1) b (offsets s (s.args.d - 1 - l.t)) h) l.invariant.1 (sym (digit-place s.args.d s.args.position l.t inside)) r.holds),
+      products_more k c.args.d (digits c.before.before.before.before.before.before.before.before.before.before.before.before.before.before.before) (offsets c.before.before.before.before.before.before.before.before.before.before.before.before.before.before.before) n (el (L c.before.before.before.before.before.before.before.before.before.before.before.before.before.before.before) l.buf) (el (L c.before.before.before.before.before.before.before.before.before.before.before.before.before.before.before) buf) l.t inside l.invariant.4
+          (subst₂ (λ h b. Doubled k (el (L c.before.before.before.before.before.before.before.before.before.before.before.before.before.before.before) l.buf) (el (L c.before.before.before.before.before.before.before.before.before.before.before.before.before.before.before) buf) n h (l.t + 1) b (offsets c.before.before.before.before.before.before.before.before.before.before.before.before.before.before.before (c.args.d - 1 - l.t)) h) l.invariant.1 (sym (digit-place c.args.d c.args.position l.t inside)) r.holds),
     )
 
-same_length : tie.Need-same-length invariant-loop decreases-loop
-same_length c = c.before.loop.invariant.2 ∙ (begun c.before.before.before.before).same
+shape_of-buf : tie.Need-shape_of-buf invariant-loop-t decreases-loop-t
+shape_of-buf c = c.loop-t.invariant.2 ∙ (begun c.before.before.before.before).same
 
-returns : tie.Need-returns invariant-loop decreases-loop
+returns : tie.Need-returns invariant-loop-t decreases-loop-t
 unfolding z
 returns c =
-    let l = c.before.loop in
-    let s = c.before.before.before.before.before.before.before.before.before in
-    let done : l.t ≡ s.args.d = omega (arith, l.invariant.0, c.loop-test.false) in
-    record { same = l.invariant.2 ∙ (begun c.before.before.before.before).same; words = l.invariant.3; holds = subst (Products (K (L s)) s.args.d (digits s) (offsets s) (s.args.d + 1) (el (L s) l.buf)) done l.invariant.4 }
+    let l = c.loop-t in
+    let done : l.t ≡ c.args.d = omega (arith, l.invariant.0, c.loop-t-test.false) in
+    record { same = l.invariant.2 ∙ (begun c.before.before.before.before).same; words = l.invariant.3; holds = subst (Products (K (L c.before.before.before.before.before.before.before.before.before)) c.args.d (digits c.before.before.before.before.before.before.before.before.before) (offsets c.before.before.before.before.before.before.before.before.before) (c.args.d + 1) (el (L c.before.before.before.before.before.before.before.before.before) l.buf)) done l.invariant.4 }
 
-pub tree-spec : {M : Type 1} → statement M
-tree-spec =
+pub tree_spec : {M : Type 1} → statement M
+tree_spec =
     tie.close
     (tie.spec
-    invariant-loop
-    decreases-loop
+    invariant-loop-t
+    decreases-loop-t
     one-requires
     put-requires
-    loop-holds
-    shr-w
-    sub-get
-    sub-get-2
-    add-get
-    get-requires
-    of-requires
-    add-double
-    add-double-2
+    loop-t-init
+    overflow_shr-w
+    overflow_sub-d
+    overflow_sub-d-in-loop-t
+    overflow_add-at
+    get-v-requires
+    of-multiples-requires
+    overflow_add-d
+    overflow_add-t
     double-requires
-    add-h
-    add-t
-    loop-less
-    loop-again
-    same_length
+    overflow_add-h
+    overflow_add-t-in-loop-t
+    loop-t-smaller
+    loop-t-preserved
+    shape_of-buf
     returns)

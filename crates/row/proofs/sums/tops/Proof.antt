@@ -14,22 +14,20 @@ use Rattle.row.proofs.sums.tops.Tie as tie
 abbrev L : tie.Start → Level
 L s = level_at s.args.level
 
-column-tops-requires : tie.Need-column-tops-requires
-column-tops-requires c κs =
-    let s = c.before.before.before in
-    (s.requires.0, s.requires.1, s.requires.3, fits_le (L s) (s.args.s * s.args.n) (s.args.s * s.args.n + s.args.s * s.args.m) (omega arith) refl s.requires.4)
+column_tops-requires : tie.Need-column_tops-requires
+column_tops-requires c κs =
+    (c.requires.0, c.requires.1, c.requires.3, fits_le (L c.before.before.before) (c.args.s * c.args.n) (c.args.s * c.args.n + c.args.s * c.args.m) (omega arith) refl c.requires.4)
 
-mul-spread : tie.Need-overflow-mul-spread
-mul-spread c = let s = c.before.before.before.before.before.before.before in omega (arith, s.requires.4.1, s.well-formed)
+overflow_mul-s : tie.Need-overflow_mul-s
+overflow_mul-s c = omega (arith, c.requires.4.1, c.well_formed)
 
 spread-requires : tie.Need-spread-requires
 spread-requires c κs =
-    let s = c.before.before.before.before.before.before.before in
-    let t = c.before.before.before.column-tops.ensures in
-    (t.words, s.requires.1, s.requires.2.y-within, omega (arith, s.requires.2.y-length), omega arith, s.requires.3, fits_le (L s) (s.args.s * s.args.n + s.args.s * s.args.m) (s.args.s * s.args.n + s.args.s * s.args.m) (omega arith) t.same s.requires.4)
+    let t = c.column_tops.ensures in
+    (t.words, c.requires.1, c.requires.2.y-within, omega (arith, c.requires.2.y-length), omega arith, c.requires.3, fits_le (L c.before.before.before.before.before.before.before) (c.args.s * c.args.n + c.args.s * c.args.m) (c.args.s * c.args.n + c.args.s * c.args.m) (omega arith) t.same c.requires.4)
 
-same_length : tie.Need-same-length
-same_length c = c.before.before.spread.ensures.same ∙ c.before.before.before.before.before.before.column-tops.ensures.same
+shape_of-dst : tie.Need-shape_of-dst
+shape_of-dst c = c.spread.ensures.same ∙ c.column_tops.ensures.same
 
 -- y as a matrix of one column
 entry : (e : ℕ) → 1 * e + 0 ≡ e
@@ -37,18 +35,23 @@ entry e = omega arith
 
 returns : tie.Need-returns
 returns c =
-    let s = c.before.before.before.before.before.before.before.before.before.before in
-    let t = c.before.before.before.before.before.before.column-tops in
-    let u = c.before.before.spread in
-    let k = K (L s) in
-    let p = value_of (L s) s.args.power.words in
+    let t = c.column_tops in
+    let u = c.spread in
+    let k = K (L c.before.before.before.before.before.before.before.before.before.before) in
+    let p = value_of (L c.before.before.before.before.before.before.before.before.before.before) c.args.power.words in
     record {
       same = u.ensures.same ∙ t.ensures.same;
       words = u.ensures.words;
-      holds = topped k (el (L s) s.args.dst.now) (el (L s) t.new.0) (el (L s) u.new.0) s.args.n s.args.m s.args.s s.args.k p (small_of (L s) s.args.y.now) s.requires.3 t.ensures.holds
-          (subst (λ f. AddedDown k (el (L s) t.new.0) (el (L s) u.new.0) (s.args.s * s.args.n) s.args.s s.args.k f s.args.m) (λ i e. k.mul (small_of (L s) s.args.y.now (entry e i)) p) u.ensures.holds);
+      holds = topped k (el (L c.before.before.before.before.before.before.before.before.before.before) c.args.dst.now) (el (L c.before.before.before.before.before.before.before.before.before.before) t.new.dst) (el (L c.before.before.before.before.before.before.before.before.before.before) u.new.dst) c.args.n c.args.m c.args.s c.args.k p (small_of (L c.before.before.before.before.before.before.before.before.before.before) c.args.y.now) c.requires.3 t.ensures.holds
+          (subst (λ f. AddedDown k (el (L c.before.before.before.before.before.before.before.before.before.before) t.new.dst) (el (L c.before.before.before.before.before.before.before.before.before.before) u.new.dst) (c.args.s * c.args.n) c.args.s c.args.k f c.args.m) (λ i e. k.mul (small_of (L c.before.before.before.before.before.before.before.before.before.before) c.args.y.now (entry e i)) p) u.ensures.holds);
     }
 
-pub tops-spec : {M : Type 1} → statement M
-tops-spec =
-    tie.close (tie.spec column-tops-requires mul-spread spread-requires same_length returns)
+pub tops_spec : {M : Type 1} → statement M
+tops_spec =
+    tie.close
+    (tie.spec
+    column_tops-requires
+    overflow_mul-s
+    spread-requires
+    shape_of-dst
+    returns)

@@ -13,61 +13,61 @@ use Rattle.bundle.specs.Bundle.{group_end}
 use Rattle.bundle.proofs.group_end.Statement.{statement}
 use Rattle.bundle.proofs.group_end.Tie as tie
 
-bound : (c : tie.After-lengths) → Bounds c.lengths.result
-bound c = rw c.lengths.ensures (bounds c.before.before.args.key c.before.before.requires.0)
+bound : (c : tie.After-lengths-len) → Bounds c.lengths-len.result
+bound c = rw c.lengths-len.ensures (bounds c.args.key c.requires.0)
 
 -- the lengths of t and a
-sizes : (c : tie.After-lengths) → let a = c.before.before.args in (c.lengths.result.bits ≡ (lengths (level_at FIRST) a.key).bits) × (c.lengths.result.proof ≡ (lengths (level_at FIRST) a.key).proof)
-sizes c = (ap (λ (n : Lengths). n.bits) c.lengths.ensures, ap (λ (n : Lengths). n.proof) c.lengths.ensures)
+sizes : (c : tie.After-lengths-len) → let a = c.args in (c.lengths-len.result.bits ≡ (lengths (level_at FIRST) a.key).bits) × (c.lengths-len.result.proof ≡ (lengths (level_at FIRST) a.key).proof)
+sizes c = (ap (λ (n : Lengths). n.bits) c.lengths-len.ensures, ap (λ (n : Lengths). n.proof) c.lengths-len.ensures)
 
-end : (c : tie.After-lengths) → let a = c.before.before.args in group_end (level_at FIRST) a.key a.s.now a.at ≡ a.at + 3 + (serial_row a.s.now a.at).len + (6 + c.lengths.result.bits + 2 * c.lengths.result.proof)
+end : (c : tie.After-lengths-len) → let a = c.args in group_end (level_at FIRST) a.key a.s.now a.at ≡ a.at + 3 + (serial_row a.s.now a.at).len + (6 + c.lengths-len.result.bits + 2 * c.lengths-len.result.proof)
 unfolding after
 end c = omega (arith, sizes c)
 
-within : (c : tie.After-lengths) → let a = c.before.before.args in a.at + 3 + (serial_row a.s.now a.at).len + (6 + c.lengths.result.bits + 2 * c.lengths.result.proof) ≤ length a.s.now
-within c = omega (arith, end c, c.before.before.requires.1)
+within : (c : tie.After-lengths-len) → let a = c.args in a.at + 3 + (serial_row a.s.now a.at).len + (6 + c.lengths-len.result.bits + 2 * c.lengths-len.result.proof) ≤ length a.s.now
+within c = omega (arith, end c, c.requires.1)
 
-lengths-requires : tie.Need-lengths-requires
-lengths-requires c κs = search rules
+lengths-len-requires : tie.Need-lengths-len-requires
+lengths-len-requires c κs = search rules
 
-mul-proof : tie.Need-overflow-mul-proof
-mul-proof c = search rules
+overflow_mul-proof : tie.Need-overflow_mul-proof
+overflow_mul-proof c = search rules
 
-add-proof : tie.Need-overflow-add-proof
-add-proof c = omega (arith, (bound c.before).bits)
+overflow_add-proof : tie.Need-overflow_add-proof
+overflow_add-proof c = omega (arith, (bound c.before).bits)
 
-mul-proof-2 : tie.Need-overflow-mul-proof-2
-mul-proof-2 c = omega (arith, (bound c.before.before).proof)
+overflow_mul-proof-2 : tie.Need-overflow_mul-proof-2
+overflow_mul-proof-2 c = omega (arith, (bound c.before.before).proof)
 
-add-proof-2 : tie.Need-overflow-add-proof-2
-add-proof-2 c = let b = bound c.before.before in omega (arith, b.bits, b.proof)
+overflow_add-proof-2 : tie.Need-overflow_add-proof-2
+overflow_add-proof-2 c = let b = bound c.before.before in omega (arith, b.bits, b.proof)
 
-add-result : tie.Need-overflow-add-result
-add-result c = omega (arith, within c.before.before)
+overflow_add-result : tie.Need-overflow_add-result
+overflow_add-result c = omega (arith, within c.before.before)
 
-serial-length-requires : tie.Need-serial-length-requires
-serial-length-requires c κs = search rules
+serial_length-requires : tie.Need-serial_length-requires
+serial_length-requires c κs = search rules
 
-add-result-2 : tie.Need-overflow-add-result-2
-add-result-2 c = omega (arith, c.serial-length.ensures, within c.before.before.before)
+overflow_add-result-2 : tie.Need-overflow_add-result-2
+overflow_add-result-2 c = omega (arith, c.serial_length.ensures, within c.before.before.before)
 
-add-result-3 : tie.Need-overflow-add-result-3
-add-result-3 c = omega (arith, c.serial-length.ensures, within c.before.before.before)
+overflow_add-result-3 : tie.Need-overflow_add-result-3
+overflow_add-result-3 c = omega (arith, c.serial_length.ensures, within c.before.before.before)
 
 returns : tie.Need-returns
-returns c = omega (arith, c.serial-length.ensures, end c.before.before.before)
+returns c = omega (arith, c.serial_length.ensures, end c.before.before.before)
 
-pub group-end-spec : {M : Type 1} → statement M
-group-end-spec =
+pub group_end_spec : {M : Type 1} → statement M
+group_end_spec =
     tie.close
     (tie.spec
-    lengths-requires
-    mul-proof
-    add-proof
-    mul-proof-2
-    add-proof-2
-    add-result
-    serial-length-requires
-    add-result-2
-    add-result-3
+    lengths-len-requires
+    overflow_mul-proof
+    overflow_add-proof
+    overflow_mul-proof-2
+    overflow_add-proof-2
+    overflow_add-result
+    serial_length-requires
+    overflow_add-result-2
+    overflow_add-result-3
     returns)

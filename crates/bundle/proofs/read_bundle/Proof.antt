@@ -17,32 +17,36 @@ use Rattle.bundle.proofs.read_bundle.Tie as tie
 walk-requires : tie.Need-walk-requires
 walk-requires c κs = search rules
 
-enum-known-refusal : tie.Need-enum-known-refusal
-enum-known-refusal c = search rules
+enum_known-refusal : tie.Need-enum_known-refusal
+enum_known-refusal c = search rules
 
-enum-known-groups : tie.Need-enum-known-groups
-enum-known-groups c = search rules
+enum_known-groups : tie.Need-enum_known-groups
+enum_known-groups c = search rules
 
-key-at-requires : tie.Need-key-at-requires
-key-at-requires c κs = search rules
+key_at-key-requires : tie.Need-key_at-key-requires
+key_at-key-requires c κs = search rules
 
-returns : tie.Need-returns
-returns c =
-    let g = c.before.before.before in
+returns-in-Refused : tie.Need-returns-in-Refused
+returns-in-Refused c =
     let l = level_at FIRST in
-    let s = g.before.before.args.bytes.now in
-    ap (λ a. read_as a (record { n = (key_of s).n; m = (key_of s).m; groups = length (starts l s) })) (sym (found-refused (first_of (bundle_tests l s)) (key_end l s) (length (starts l s)) (sym g.walk.ensures ∙ c.before.refusal.given.1)))
+    let s = c.args.bytes.now in
+    ap (λ a. read_as a (record { n = (key_of s).n; m = (key_of s).m; groups = length (starts l s) })) (sym (found-refused (first_of (bundle_tests l s)) (key_end l s) (length (starts l s)) (sym c.walk.ensures ∙ c.in-Refused.is)))
 
-returns-2 : tie.Need-returns-2
-returns-2 c =
-    let g = c.before.before.before.before in
+returns-in-Whole : tie.Need-returns-in-Whole
+returns-in-Whole c =
     let l = level_at FIRST in
-    let s = g.before.before.args.bytes.now in
-    let h = found-whole (first_of (bundle_tests l s)) (key_end l s) (length (starts l s)) (sym g.walk.ensures ∙ c.before.before.groups.given.1) in
-    ap₂ (λ (key : Key) (x : Groups). Fields (record { n = key.n; m = key.m; groups = x.number })) c.key-at.ensures h.1
+    let s = c.args.bytes.now in
+    let h = found-whole (first_of (bundle_tests l s)) (key_end l s) (length (starts l s)) (sym c.walk.ensures ∙ c.in-Whole.is) in
+    ap₂ (λ (key : Key) (x : Groups). Fields (record { n = key.n; m = key.m; groups = x.number })) c.key_at-key.ensures h.1
     ∙ ap (λ a. read_as a (record { n = (key_of s).n; m = (key_of s).m; groups = length (starts l s) })) (sym h.0)
 
-pub read-bundle-spec : {M : Type 1} → statement M
-read-bundle-spec =
+pub read_bundle_spec : {M : Type 1} → statement M
+read_bundle_spec =
     tie.close
-    (tie.spec walk-requires enum-known-refusal enum-known-groups key-at-requires returns returns-2)
+    (tie.spec
+    walk-requires
+    enum_known-refusal
+    enum_known-groups
+    key_at-key-requires
+    returns-in-Refused
+    returns-in-Whole)

@@ -7,87 +7,78 @@ use Rattle.bundle.proofs.Steps.{Going, going_first, going_stop, going_done, goin
 use Rattle.bundle.proofs.read_groups.Statement.{statement}
 use Rattle.bundle.proofs.read_groups.Tie as tie
 
-abbrev invariant-loop : tie.invariant-loop
-invariant-loop s key start at₀ low₀ number₀ at low number = Going key s start at low number
+abbrev invariant-loop-refusal : tie.invariant-loop-refusal
+invariant-loop-refusal s key start at₀ low₀ number₀ at low number = Going key s start at low number
 
-abbrev decreases-loop : tie.decreases-loop
-decreases-loop s key start at₀ low₀ number₀ at low number = length s - at
+abbrev decreases-loop-refusal : tie.decreases-loop-refusal
+decreases-loop-refusal s key start at₀ low₀ number₀ at low number = length s - at
 
-loop-holds : tie.Need-loop-init invariant-loop decreases-loop
-loop-holds c = let a = c.before.args in going_first a.key a.s.now a.start
+loop-refusal-init : tie.Need-loop-refusal-init invariant-loop-refusal decreases-loop-refusal
+loop-refusal-init c = let a = c.args in going_first a.key a.s.now a.start
 
-read-group-requires : tie.Need-read-group-requires invariant-loop decreases-loop
-read-group-requires c κs = search rules
+read_group-step-requires : tie.Need-read_group-step-requires invariant-loop-refusal decreases-loop-refusal
+read_group-step-requires c κs = search rules
 
-enum-known-step : tie.Need-enum-known-step invariant-loop decreases-loop
-enum-known-step c = search rules
+enum_known-step : tie.Need-enum_known-step invariant-loop-refusal decreases-loop-refusal
+enum_known-step c = search rules
 
-returns : tie.Need-returns invariant-loop decreases-loop
-returns c =
-    let h = c.before.before.before in
-    let g = h.before.loop in
-    let a = h.before.before.before.args in
-    going_stop a.key a.s.now a.start g.at g.low g.number g.invariant h.read-group.ensures c.before.step.given.1
+returns-in-Refused : tie.Need-returns-in-Refused invariant-loop-refusal decreases-loop-refusal
+returns-in-Refused c =
+    let g = c.loop-refusal in
+    let a = c.args in
+    going_stop a.key a.s.now a.start g.at g.low g.number g.invariant c.read_group-step.ensures c.in-Refused.is
 
-enum-known-step-2 : tie.Need-enum-known-step-2 invariant-loop decreases-loop
-enum-known-step-2 c = search rules
+enum_known-step-in-Next-1 : tie.Need-enum_known-step-in-Next-1 invariant-loop-refusal decreases-loop-refusal
+enum_known-step-in-Next-1 c = search rules
 
-add-number : tie.Need-overflow-add-number invariant-loop decreases-loop
-add-number c = omega (arith, c.before.before.before.before.loop.invariant.less)
+overflow_add-number : tie.Need-overflow_add-number invariant-loop-refusal decreases-loop-refusal
+overflow_add-number c = omega (arith, c.loop-refusal.invariant.less)
 
-returns-2 : tie.Need-returns-2 invariant-loop decreases-loop
-returns-2 c =
-    let k = c.before in
-    let h = k.before.before.before in
-    let g = h.before.loop in
-    let a = h.before.before.before.args in
-    going_done a.key a.s.now a.start g.at g.low g.number g.invariant h.read-group.ensures k.before.step2.given.1 c.if1.true
+returns-then-s-end : tie.Need-returns-then-s-end invariant-loop-refusal decreases-loop-refusal
+returns-then-s-end c =
+    let g = c.loop-refusal in
+    let a = c.args in
+    going_done a.key a.s.now a.start g.at g.low g.number g.invariant c.read_group-step.ensures c.in-Next.is c.if-s-end.true
 
-serial-at-requires : tie.Need-serial-at-requires invariant-loop decreases-loop
-serial-at-requires c κs =
-    let k = c.before in
-    let h = k.before.before.before in
-    let g = h.before.loop in
-    let a = h.before.before.before.args in
-    group-fits a.key a.s.now 0 g.low g.at h.read-group.ensures k.before.step2.given.1
+serial_at-requires : tie.Need-serial_at-requires invariant-loop-refusal decreases-loop-refusal
+serial_at-requires c κs =
+    let g = c.loop-refusal in
+    let a = c.args in
+    group-fits a.key a.s.now 0 g.low g.at c.read_group-step.ensures c.in-Next.is
 
-cast-low : tie.Need-overflow-cast-low invariant-loop decreases-loop
-cast-low c = search rules
+overflow_cast-low : tie.Need-overflow_cast-low invariant-loop-refusal decreases-loop-refusal
+overflow_cast-low c = search rules
 
-add_low : tie.Need-overflow-add-low invariant-loop decreases-loop
-add_low c = search rules
+overflow_add-low : tie.Need-overflow_add-low invariant-loop-refusal decreases-loop-refusal
+overflow_add-low c = search rules
 
-loop-less : tie.Need-loop-smaller invariant-loop decreases-loop
-loop-less c =
-    let k = c.before.before in
-    let h = k.before.before.before in
-    let g = h.before.loop in
-    let a = h.before.before.before.args in
-    omega (arith, end-above a.key a.s.now g.at, group_ended a.key a.s.now 0 g.low g.at h.read-group.ensures k.before.step2.given.1, c.before.if1.false)
+loop-refusal-smaller : tie.Need-loop-refusal-smaller invariant-loop-refusal decreases-loop-refusal
+loop-refusal-smaller c =
+    let g = c.loop-refusal in
+    let a = c.args in
+    omega (arith, end-above a.key a.s.now g.at, group_ended a.key a.s.now 0 g.low g.at c.read_group-step.ensures c.in-Next.is, c.if-s-end.false)
 
-loop-again : tie.Need-loop-preserved invariant-loop decreases-loop
-loop-again c =
-    let k = c.before.before in
-    let h = k.before.before.before in
-    let g = h.before.loop in
-    let a = h.before.before.before.args in
-    going_next a.key a.s.now a.start g.at g.low g.number g.invariant h.read-group.ensures k.before.step2.given.1 c.before.if1.false (c.serial-at.ensures a.key)
+loop-refusal-preserved : tie.Need-loop-refusal-preserved invariant-loop-refusal decreases-loop-refusal
+loop-refusal-preserved c =
+    let g = c.loop-refusal in
+    let a = c.args in
+    going_next a.key a.s.now a.start g.at g.low g.number g.invariant c.read_group-step.ensures c.in-Next.is c.if-s-end.false (c.serial_at.ensures a.key)
 
-pub read-groups-spec : {M : Type 1} → statement M
-read-groups-spec =
+pub read_groups_spec : {M : Type 1} → statement M
+read_groups_spec =
     tie.close
     (tie.spec
-    invariant-loop
-    decreases-loop
-    loop-holds
-    read-group-requires
-    enum-known-step
-    returns
-    enum-known-step-2
-    add-number
-    returns-2
-    serial-at-requires
-    cast-low
-    add_low
-    loop-less
-    loop-again)
+    invariant-loop-refusal
+    decreases-loop-refusal
+    loop-refusal-init
+    read_group-step-requires
+    enum_known-step
+    returns-in-Refused
+    enum_known-step-in-Next-1
+    overflow_add-number
+    returns-then-s-end
+    serial_at-requires
+    overflow_cast-low
+    overflow_add-low
+    loop-refusal-smaller
+    loop-refusal-preserved)

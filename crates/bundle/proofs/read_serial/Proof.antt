@@ -4,51 +4,47 @@ use Rattle.bundle.proofs.Steps.{serial_stops, serial-below, serial-passes, seria
 use Rattle.bundle.proofs.read_serial.Statement.{statement}
 use Rattle.bundle.proofs.read_serial.Tie as tie
 
-read-serial-requires : tie.Need-read-serial-requires
-read-serial-requires c κs = search rules
+read_serial-step-requires : tie.Need-read_serial-step-requires
+read_serial-step-requires c κs = search rules
 
-enum_told : tie.Need-enum-told
-enum_told c = search rules
+enum_told-1 : tie.Need-enum_told-1
+enum_told-1 c = search rules
 
-returns : tie.Need-returns
-returns c =
-    let a = c.before.before.before.before.args in
-    λ key. serial_stops key a.s.now a.low a.at c.before.before.read-serial.ensures c.enum_told.given.1
+returns-in-Refused : tie.Need-returns-in-Refused
+returns-in-Refused c =
+    let a = c.args in
+    λ key. serial_stops key a.s.now a.low a.at c.read_serial-step.ensures c.in-Refused.is
 
-enum-told-2 : tie.Need-enum-told-2
-enum-told-2 c = search rules
+enum_told-in_default : tie.Need-enum_told-in_default
+enum_told-in_default c = search rules
 
-serial-at-requires : tie.Need-serial-at-requires
-serial-at-requires c κs =
-    let a = c.before.before.before.before.args in
-    serial-fits (record { n = 0; m = 0 }) a.s.now a.low a.at c.before.before.read-serial.ensures c.enum-told2.given.1
+serial_at-requires : tie.Need-serial_at-requires
+serial_at-requires c κs =
+    let a = c.args in
+    serial-fits (record { n = 0; m = 0 }) a.s.now a.low a.at c.read_serial-step.ensures c.in_default.is
 
-cast-if1 : tie.Need-overflow-cast-if1
-cast-if1 c = search rules
+overflow_cast-serial_at : tie.Need-overflow_cast-serial_at
+overflow_cast-serial_at c = search rules
 
-returns-2 : tie.Need-returns-2
-returns-2 c =
-    let k = c.before in
-    let g = k.before in
-    let a = g.before.before.before.before.args in
-    λ key. serial-below key a.s.now a.low a.at g.before.before.read-serial.ensures g.enum-told2.given.1 (omega (arith, k.serial-at.ensures key, c.if1.true))
+returns-then-serial_at-low : tie.Need-returns-then-serial_at-low
+returns-then-serial_at-low c =
+    let a = c.args in
+    λ key. serial-below key a.s.now a.low a.at c.read_serial-step.ensures c.in_default.is (omega (arith, c.serial_at.ensures key, c.if-serial_at-low.true))
 
-returns-3 : tie.Need-returns-3
-returns-3 c =
-    let k = c.before in
-    let g = k.before in
-    let a = g.before.before.before.before.args in
-    λ key. serial-passes key a.s.now a.low a.at g.before.before.read-serial.ensures g.enum-told2.given.1 (omega (arith, k.serial-at.ensures key, c.if1.false))
+returns-else-serial_at-low : tie.Need-returns-else-serial_at-low
+returns-else-serial_at-low c =
+    let a = c.args in
+    λ key. serial-passes key a.s.now a.low a.at c.read_serial-step.ensures c.in_default.is (omega (arith, c.serial_at.ensures key, c.if-serial_at-low.false))
 
-pub read-serial-spec : {M : Type 1} → statement M
-read-serial-spec =
+pub read_serial_spec : {M : Type 1} → statement M
+read_serial_spec =
     tie.close
     (tie.spec
-    read-serial-requires
-    enum_told
-    returns
-    enum-told-2
-    serial-at-requires
-    cast-if1
-    returns-2
-    returns-3)
+    read_serial-step-requires
+    enum_told-1
+    returns-in-Refused
+    enum_told-in_default
+    serial_at-requires
+    overflow_cast-serial_at
+    returns-then-serial_at-low
+    returns-else-serial_at-low)

@@ -18,54 +18,53 @@ use Rattle.writer.proofs.checks.Statement.{statement}
 use Rattle.writer.proofs.checks.Tie as tie
 
 -- past the sizes
-passed : (c : tie.After-enum-told2) → first_of (sizes (level_at FIRST) c.before.before.before.before.before.before.before.before.args.key) ≡ Done
-passed c = sym c.before.before.sizes.ensures ∙ c.enum-told2.given.1
+passed : (c : tie.In_default) → first_of (sizes (level_at FIRST) c.args.key) ≡ Done
+passed c = sym c.sizes-sizes.ensures ∙ c.in_default.is
 
-is-sized : (c : tie.After-enum-told2) → Sized (level_at FIRST) c.before.before.before.before.before.before.before.before.args.key
-is-sized c = let k = c.before.before.before.before.before.before.before.before.args.key in sized (level_at FIRST) k (none (sizes (level_at FIRST) k) (passed c))
+is-sized : (c : tie.In_default) → Sized (level_at FIRST) c.args.key
+is-sized c = let k = c.args.key in sized (level_at FIRST) k (none (sizes (level_at FIRST) k) (passed c))
 
-sizes-requires : tie.Need-sizes-requires
-sizes-requires c κs = search rules
+sizes-sizes-requires : tie.Need-sizes-sizes-requires
+sizes-sizes-requires c κs = search rules
 
-enum_told : tie.Need-enum-told
-enum_told c = search rules
+enum_told-1 : tie.Need-enum_told-1
+enum_told-1 c = search rules
 
-returns : tie.Need-returns
-returns c =
-    let a = c.before.before.before.before.before.before.before.before.args in
-    after-refused (sizes (level_at FIRST) a.key) (checks (level_at FIRST) a.key (long (write_lent (lengths (level_at FIRST) a.key) (key_slices a.h.now a.x.now a.y.now) a.t.now a.a.now)) (key_slices a.h.now a.x.now a.y.now) (below 1 a.t.now) (withins (level_at FIRST) (a.a.now ∷ [])) Column) c.before.before.sizes.ensures c.enum_told.given.1
+returns-in-Refused : tie.Need-returns-in-Refused
+returns-in-Refused c =
+    let a = c.args in
+    after-refused (sizes (level_at FIRST) a.key) (checks (level_at FIRST) a.key (long (write_lent (lengths (level_at FIRST) a.key) (key_slices a.h.now a.x.now a.y.now) a.t.now a.a.now)) (key_slices a.h.now a.x.now a.y.now) (below 1 a.t.now) (withins (level_at FIRST) (a.a.now ∷ [])) Column) c.sizes-sizes.ensures c.in-Refused.is
 
-enum-told-2 : tie.Need-enum-told-2
-enum-told-2 c = search rules
+enum_told-in_default : tie.Need-enum_told-in_default
+enum_told-in_default c = search rules
 
-lengths-requires : tie.Need-lengths-requires
-lengths-requires c κs = is-sized c
+lengths-slices-requires : tie.Need-lengths-slices-requires
+lengths-slices-requires c κs = is-sized c
 
-returns-2 : tie.Need-returns-2
-returns-2 c =
-    let a = c.before.before.before.before.before.before.before.before.before.before.args in
+returns-then-slices-ne0 : tie.Need-returns-then-slices-ne0
+returns-then-slices-ne0 c =
+    let a = c.args in
     told-length (level_at FIRST) a.key (long (write_lent (lengths (level_at FIRST) a.key) (key_slices a.h.now a.x.now a.y.now) a.t.now a.a.now)) (key_slices a.h.now a.x.now a.y.now) (below 1 a.t.now) (withins (level_at FIRST) (a.a.now ∷ [])) Column []
-    (passed c.before.before) c.before.lengths.result c.before.lengths.ensures c.if1.true
+    (passed c.before.before) c.lengths-slices.result c.lengths-slices.ensures c.if-slices-ne0.true
 
 -- past the lengths
-contents-requires : tie.Need-contents-requires
-contents-requires c κs =
+contents-contents-requires : tie.Need-contents-contents-requires
+contents-contents-requires c κs =
     let s = is-sized c.before.before in
-    let a = c.before.before.before.before.before.before.before.before.before.before.args in
-    (s, (each_long (write_lent (lengths (level_at FIRST) a.key) (key_slices a.h.now a.x.now a.y.now) a.t.now a.a.now) (sym c.before.lengths.ensures ∙ eq-eqb c.before.lengths.result 0 c.if1.false)).0, first-matrix a.key s)
+    let a = c.args in
+    (s, (each_long (write_lent (lengths (level_at FIRST) a.key) (key_slices a.h.now a.x.now a.y.now) a.t.now a.a.now) (sym c.lengths-slices.ensures ∙ eq-eqb c.lengths-slices.result 0 c.if-slices-ne0.false)).0, first-matrix a.key s)
 
-enum-told-3 : tie.Need-enum-told-3
-enum-told-3 c = search rules
+enum_told-in-Refused-contents : tie.Need-enum_told-in-Refused-contents
+enum_told-in-Refused-contents c = search rules
 
-returns-3 : tie.Need-returns-3
-returns-3 c =
-    let a = c.before.before.before.before.before.before.before.before.before.before.before.before.before.args in
-    let e = c.before.before.before in
+returns-in-Refused-contents : tie.Need-returns-in-Refused-contents
+returns-in-Refused-contents c =
+    let a = c.args in
     told-key (level_at FIRST) a.key (long (write_lent (lengths (level_at FIRST) a.key) (key_slices a.h.now a.x.now a.y.now) a.t.now a.a.now)) (key_slices a.h.now a.x.now a.y.now) (below 1 a.t.now) (withins (level_at FIRST) (a.a.now ∷ [])) Column []
-    (passed e.before.before) e.before.lengths.result e.before.lengths.ensures e.if1.false c.before.before.contents.ensures c.enum-told3.given.1
+    (passed c.before.before.before.before) c.lengths-slices.result c.lengths-slices.ensures c.if-slices-ne0.false c.contents-contents.ensures c.in-Refused-contents.is
 
-enum-told-4 : tie.Need-enum-told-4
-enum-told-4 c = search rules
+enum_told-in_default-contents : tie.Need-enum_told-in_default-contents
+enum_told-in_default-contents c = search rules
 
 over-requires : tie.Need-over-requires
 over-requires c κs = search rules
@@ -76,30 +75,28 @@ excess-requires c κs = search rules
 material-requires : tie.Need-material-requires
 material-requires c κs = search rules
 
-returns-4 : tie.Need-returns-4
-returns-4 c =
-    let a = c.before.before.before.before.before.before.before.before.before.before.before.before.before.before.before.before.args in
-    let e = c.before.before.before.before.before.before in
-    let f = c.before.before.before in
+returns : tie.Need-returns
+returns c =
+    let a = c.args in
     told (level_at FIRST) a.key (long (write_lent (lengths (level_at FIRST) a.key) (key_slices a.h.now a.x.now a.y.now) a.t.now a.a.now)) (key_slices a.h.now a.x.now a.y.now) (below 1 a.t.now) (withins (level_at FIRST) (a.a.now ∷ [])) Column
-    (passed e.before.before) e.before.lengths.result e.before.lengths.ensures e.if1.false (sym f.before.before.contents.ensures ∙ f.enum-told4.given.1) c.material.ensures
-    c.before.before.over.ensures (withins-last (level_at FIRST) a.a.now c.before.excess.result c.before.excess.ensures) refl
+    (passed c.before.before.before.before.before.before.before) c.lengths-slices.result c.lengths-slices.ensures c.if-slices-ne0.false (sym c.contents-contents.ensures ∙ c.in_default-contents.is) c.material.ensures
+    c.over.ensures (withins-last (level_at FIRST) a.a.now c.excess.result c.excess.ensures) refl
 
-pub checks-spec : {M : Type 1} → statement M
-checks-spec =
+pub checks_spec : {M : Type 1} → statement M
+checks_spec =
     tie.close
     (tie.spec
-    sizes-requires
-    enum_told
-    returns
-    enum-told-2
-    lengths-requires
-    returns-2
-    contents-requires
-    enum-told-3
-    returns-3
-    enum-told-4
+    sizes-sizes-requires
+    enum_told-1
+    returns-in-Refused
+    enum_told-in_default
+    lengths-slices-requires
+    returns-then-slices-ne0
+    contents-contents-requires
+    enum_told-in-Refused-contents
+    returns-in-Refused-contents
+    enum_told-in_default-contents
     over-requires
     excess-requires
     material-requires
-    returns-4)
+    returns)

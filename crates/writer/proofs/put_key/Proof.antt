@@ -31,66 +31,66 @@ three key h x y s e f g room =
     let v = fields-next (sizes_field key ∷ []) ((0x02, word_bytes h) ∷ []) w (omega arith) f in
     fields-next (sizes_field key ∷ (0x02, word_bytes h) ∷ []) ((0x03, word_bytes x) ∷ []) v (omega (arith, f.1)) g
 
-cast-t10 : tie.Need-overflow-cast-t10
-cast-t10 c = search rules
+overflow_cast-sizes : tie.Need-overflow_cast-sizes
+overflow_cast-sizes c = search rules
 
-cast-t11 : tie.Need-overflow-cast-t11
-cast-t11 c = search rules
+overflow_cast-sizes-2 : tie.Need-overflow_cast-sizes-2
+overflow_cast-sizes-2 c = search rules
 
-slice-aggregate-put-field : tie.Need-slice-aggregate-put-field
-slice-aggregate-put-field c = search rules
+slice_bounds-put_field-end : tie.Need-slice_bounds-put_field-end
+slice_bounds-put_field-end c = search rules
 
-put-field-requires : tie.Need-put-field-requires
-put-field-requires c κs = let a = c.before.before.before.before.before.before.before.before.args in (omega arith, omega (arith, key-length a.key a.h.now a.x.now a.y.now))
+put_field-at-requires : tie.Need-put_field-at-requires
+put_field-at-requires c κs = let a = c.args in (omega arith, omega (arith, key-length a.key a.h.now a.x.now a.y.now))
 
-put-words-field-requires : tie.Need-put-words-field-requires
-put-words-field-requires c κs = let a = c.before.before.before.before.before.before.before.before.before.before.before.before.args in (omega arith, omega (arith, key-length a.key a.h.now a.x.now a.y.now, c.before.before.before.put-field.ensures.1))
+put_words_field-at-requires : tie.Need-put_words_field-at-requires
+put_words_field-at-requires c κs = let a = c.args in (omega arith, omega (arith, key-length a.key a.h.now a.x.now a.y.now, c.put_field-at.ensures.1))
 
-put-words-field-requires-2 : tie.Need-put-words-field-requires-2
-put-words-field-requires-2 c κs = let a = c.before.before.before.before.before.before.before.before.before.before.before.before.before.before.before.before.args in (omega arith, omega (arith, key-length a.key a.h.now a.x.now a.y.now, c.before.before.before.before.before.before.before.put-field.ensures.1, c.before.before.before.put-words-field.ensures.1))
+put_words_field-at-requires-2 : tie.Need-put_words_field-at-requires-2
+put_words_field-at-requires-2 c κs = let a = c.args in (omega arith, omega (arith, key-length a.key a.h.now a.x.now a.y.now, c.put_field-at.ensures.1, c.put_words_field-at.ensures.1))
 
 zero-requires : tie.Need-zero-requires
 zero-requires c κs = search rules
 
-put-words-field-requires-3 : tie.Need-put-words-field-requires-3
-put-words-field-requires-3 c κs = let a = c.before.before.before.before.before.before.before.before.before.before.before.before.before.before.before.before.before.before.before.before.before.before.args in (omega arith, omega (arith, key-length a.key a.h.now a.x.now a.y.now, c.before.before.before.before.before.before.before.before.before.before.before.before.before.put-field.ensures.1, c.before.before.before.before.before.before.before.before.before.put-words-field.ensures.1, c.before.before.before.before.before.put-words-field2.ensures.1, some a.y.now (sym c.before.before.zero.ensures ∙ c.before.if1.false)))
+put_words_field-requires : tie.Need-put_words_field-requires
+put_words_field-requires c κs = let a = c.args in (omega arith, omega (arith, key-length a.key a.h.now a.x.now a.y.now, c.put_field-at.ensures.1, c.put_words_field-at.ensures.1, c.put_words_field-at-2.ensures.1, some a.y.now (sym c.zero.ensures ∙ c.if-zero.false)))
 
-same_length : tie.Need-same-length
-same_length c = search rules
+shape_of-out-then-zero : tie.Need-shape_of-out-then-zero
+shape_of-out-then-zero c = search rules
 
-returns : tie.Need-returns
-returns c =
-    let a = c.before.before.before.before.before.before.before.before.before.before.before.before.before.before.before.before.before.before.before.before.before.args in
-    let w = three a.key a.h.now a.x.now a.y.now a.out.now c.before.before.before.before.before.before.before.before.before.before.before.before.put-field.ensures c.before.before.before.before.before.before.before.before.put-words-field.ensures c.before.before.before.before.put-words-field2.ensures (omega (arith, key-length a.key a.h.now a.x.now a.y.now)) in
-    let y = absent a.y.now (sym c.before.zero.ensures ∙ c.if1.true) in
+returns-then-zero : tie.Need-returns-then-zero
+returns-then-zero c =
+    let a = c.args in
+    let w = three a.key a.h.now a.x.now a.y.now a.out.now c.put_field-at.ensures c.put_words_field-at.ensures c.put_words_field-at-2.ensures (omega (arith, key-length a.key a.h.now a.x.now a.y.now)) in
+    let y = absent a.y.now (sym c.zero.ensures ∙ c.if-zero.true) in
     let is = ap (λ f. joined (first_fields a.key a.h.now a.x.now ++ f)) (sym y) in
     (w.is ∙ ap (λ b. put 0 b a.out.now) is, omega (arith, w.end, ap length is))
 
-same-length-2 : tie.Need-same-length-2
-same-length-2 c = search rules
+shape_of-out-else-zero : tie.Need-shape_of-out-else-zero
+shape_of-out-else-zero c = search rules
 
-returns-2 : tie.Need-returns-2
-returns-2 c =
-    let a = c.before.before.before.before.before.before.before.before.before.before.before.before.before.before.before.before.before.before.before.before.before.before.before.before.before.args in
-    let w = three a.key a.h.now a.x.now a.y.now a.out.now c.before.before.before.before.before.before.before.before.before.before.before.before.before.before.before.before.put-field.ensures c.before.before.before.before.before.before.before.before.before.before.before.before.put-words-field.ensures c.before.before.before.before.before.before.before.before.put-words-field2.ensures (omega (arith, key-length a.key a.h.now a.x.now a.y.now)) in
-    let none = sym c.before.before.before.before.before.zero.ensures ∙ c.before.before.before.before.if1.false in
-    let v = fields-next (first_fields a.key a.h.now a.x.now) ((0x04, word_bytes a.y.now) ∷ []) w (omega (arith, key-length a.key a.h.now a.x.now a.y.now, some a.y.now none, w.end, three-length (sizes_field a.key) (0x02, word_bytes a.h.now) (0x03, word_bytes a.x.now))) c.before.before.put-words-field3.ensures in
+returns-else-zero : tie.Need-returns-else-zero
+returns-else-zero c =
+    let a = c.args in
+    let w = three a.key a.h.now a.x.now a.y.now a.out.now c.put_field-at.ensures c.put_words_field-at.ensures c.put_words_field-at-2.ensures (omega (arith, key-length a.key a.h.now a.x.now a.y.now)) in
+    let none = sym c.zero.ensures ∙ c.if-zero.false in
+    let v = fields-next (first_fields a.key a.h.now a.x.now) ((0x04, word_bytes a.y.now) ∷ []) w (omega (arith, key-length a.key a.h.now a.x.now a.y.now, some a.y.now none, w.end, three-length (sizes_field a.key) (0x02, word_bytes a.h.now) (0x03, word_bytes a.x.now))) c.put_words_field.ensures in
     let is = ap (λ f. joined (first_fields a.key a.h.now a.x.now ++ f)) (sym (present a.y.now none)) in
     (v.is ∙ ap (λ b. put 0 b a.out.now) is, omega (arith, v.end, ap length is))
 
-pub put-key-spec : {M : Type 1} → statement M
-put-key-spec =
+pub put_key_spec : {M : Type 1} → statement M
+put_key_spec =
     tie.close
     (tie.spec
-    cast-t10
-    cast-t11
-    slice-aggregate-put-field
-    put-field-requires
-    put-words-field-requires
-    put-words-field-requires-2
+    overflow_cast-sizes
+    overflow_cast-sizes-2
+    slice_bounds-put_field-end
+    put_field-at-requires
+    put_words_field-at-requires
+    put_words_field-at-requires-2
     zero-requires
-    put-words-field-requires-3
-    same_length
-    returns
-    same-length-2
-    returns-2)
+    put_words_field-requires
+    shape_of-out-then-zero
+    returns-then-zero
+    shape_of-out-else-zero
+    returns-else-zero)

@@ -18,67 +18,67 @@ two x h = let low : x % 65536 ≡ x = omega arith in ap two_bytes low ∙ sym (i
 four : (x : ℕ) → 65536 ≤ x → four_bytes x ≡ serial_bytes x
 four x h = sym (in_four x h)
 
-cast-t8 : tie.Need-overflow-cast-t8
-cast-t8 c = search rules
+overflow_cast-bytes : tie.Need-overflow_cast-bytes
+overflow_cast-bytes c = search rules
 
-cast-t10 : tie.Need-overflow-cast-t10
-cast-t10 c = search rules
+overflow_cast-bytes-2 : tie.Need-overflow_cast-bytes-2
+overflow_cast-bytes-2 c = search rules
 
-cast-t12 : tie.Need-overflow-cast-t12
-cast-t12 c = search rules
+overflow_cast-bytes-3 : tie.Need-overflow_cast-bytes-3
+overflow_cast-bytes-3 c = search rules
 
-cast-t14 : tie.Need-overflow-cast-t14
-cast-t14 c = search rules
+overflow_cast-bytes-4 : tie.Need-overflow_cast-bytes-4
+overflow_cast-bytes-4 c = search rules
 
-sub-put-field : tie.Need-overflow-sub-put-field
-sub-put-field c = search rules
+slice_bounds-put_field-count : tie.Need-slice_bounds-put_field-count
+slice_bounds-put_field-count c = search rules
 
-part-put-field-start : tie.Need-slice-bounds-put-field-start
-part-put-field-start c = search rules
+slice_bounds-put_field-start : tie.Need-slice_bounds-put_field-start
+slice_bounds-put_field-start c = search rules
 
-part-put-field-end : tie.Need-slice-bounds-put-field-end
-part-put-field-end c = search rules
+slice_bounds-put_field-end : tie.Need-slice_bounds-put_field-end
+slice_bounds-put_field-end c = search rules
 
-put-field-requires : tie.Need-put-field-requires
-put-field-requires c κs = let x = c.before.before.before.before.before.args.serial in (omega arith, omega (arith, ap (λ s. length (joined ((0x05, s) ∷ []))) (two x (omega arith))))
+put_field-requires : tie.Need-put_field-requires
+put_field-requires c κs = let x = c.args.serial in (omega arith, omega (arith, ap (λ s. length (joined ((0x05, s) ∷ []))) (two x (omega arith))))
 
-slice-aggregate-put-field : tie.Need-slice-aggregate-put-field
-slice-aggregate-put-field c = search rules
+slice_bounds-put_field-end-else-serial-lt65536 : tie.Need-slice_bounds-put_field-end-else-serial-lt65536
+slice_bounds-put_field-end-else-serial-lt65536 c = search rules
 
-put-field-requires-2 : tie.Need-put-field-requires-2
-put-field-requires-2 c κs = let x = c.before.before.before.before.args.serial in (omega arith, omega (arith, ap (λ s. length (joined ((0x05, s) ∷ []))) (four x (omega arith))))
+put_field-requires-else-serial-lt65536 : tie.Need-put_field-requires-else-serial-lt65536
+put_field-requires-else-serial-lt65536 c κs = let x = c.args.serial in (omega arith, omega (arith, ap (λ s. length (joined ((0x05, s) ∷ []))) (four x (omega arith))))
 
-same_length : tie.Need-same-length
-same_length c = search rules
+shape_of-out-then-serial-lt65536 : tie.Need-shape_of-out-then-serial-lt65536
+shape_of-out-then-serial-lt65536 c = search rules
 
-returns : tie.Need-returns
-returns c =
-    let a = c.before.before.before.before.before.before.before.before.args in
-    subst (λ s. (c.before.before.put-field.new.1.1.1.0 ≡ put a.at (joined ((0x05, s) ∷ [])) a.out.now) × (c.before.before.put-field.result ≡ a.at + length (joined ((0x05, s) ∷ [])))) (two a.serial (omega arith)) c.before.before.put-field.ensures
+returns-then-serial-lt65536 : tie.Need-returns-then-serial-lt65536
+returns-then-serial-lt65536 c =
+    let a = c.args in
+    subst (λ s. (c.put_field.new.out ≡ put a.at (joined ((0x05, s) ∷ [])) a.out.now) × (c.put_field.result ≡ a.at + length (joined ((0x05, s) ∷ [])))) (two a.serial (omega arith)) c.put_field.ensures
 
-same-length-2 : tie.Need-same-length-2
-same-length-2 c = search rules
+shape_of-out-else-serial-lt65536 : tie.Need-shape_of-out-else-serial-lt65536
+shape_of-out-else-serial-lt65536 c = search rules
 
-returns-2 : tie.Need-returns-2
-returns-2 c =
-    let a = c.before.before.before.before.before.before.before.args in
-    subst (λ s. (c.before.before.put-field2.new.1.1.1.0 ≡ put a.at (joined ((0x05, s) ∷ [])) a.out.now) × (c.before.before.put-field2.result ≡ a.at + length (joined ((0x05, s) ∷ [])))) (four a.serial (omega arith)) c.before.before.put-field2.ensures
+returns-else-serial-lt65536 : tie.Need-returns-else-serial-lt65536
+returns-else-serial-lt65536 c =
+    let a = c.args in
+    subst (λ s. (c.put_field-else-serial-lt65536.new.out ≡ put a.at (joined ((0x05, s) ∷ [])) a.out.now) × (c.put_field-else-serial-lt65536.result ≡ a.at + length (joined ((0x05, s) ∷ [])))) (four a.serial (omega arith)) c.put_field-else-serial-lt65536.ensures
 
-pub put-serial-spec : {M : Type 1} → statement M
-put-serial-spec =
+pub put_serial_spec : {M : Type 1} → statement M
+put_serial_spec =
     tie.close
     (tie.spec
-    cast-t8
-    cast-t10
-    cast-t12
-    cast-t14
-    sub-put-field
-    part-put-field-start
-    part-put-field-end
-    put-field-requires
-    slice-aggregate-put-field
-    put-field-requires-2
-    same_length
-    returns
-    same-length-2
-    returns-2)
+    overflow_cast-bytes
+    overflow_cast-bytes-2
+    overflow_cast-bytes-3
+    overflow_cast-bytes-4
+    slice_bounds-put_field-count
+    slice_bounds-put_field-start
+    slice_bounds-put_field-end
+    put_field-requires
+    slice_bounds-put_field-end-else-serial-lt65536
+    put_field-requires-else-serial-lt65536
+    shape_of-out-then-serial-lt65536
+    returns-then-serial-lt65536
+    shape_of-out-else-serial-lt65536
+    returns-else-serial-lt65536)

@@ -12,42 +12,49 @@ use borrow.Author.Rules.{rules}
 use Rattle.writer.proofs.refused.Statement.{statement}
 use Rattle.writer.proofs.refused.Tie as tie
 
-checks-requires : tie.Need-checks-requires
-checks-requires c κs = search rules
+checks-checked-requires : tie.Need-checks-checked-requires
+checks-checked-requires c κs = search rules
 
-enum_told : tie.Need-enum-told
-enum_told c = search rules
+enum_told-1 : tie.Need-enum_told-1
+enum_told-1 c = search rules
 
-returns : tie.Need-returns
-returns c =
-    let a = c.before.before.before.before.before.before.before.before.args in
+returns-in-Refused : tie.Need-returns-in-Refused
+returns-in-Refused c =
+    let a = c.args in
     let needed = length (package_bytes (level_at FIRST) a.key (key_slices a.h.now a.x.now a.y.now) a.serial a.t.now a.a.now) in
-    after-refused (write_checks (level_at FIRST) a.key (key_slices a.h.now a.x.now a.y.now) a.t.now a.a.now) (room_row needed a.room) c.before.before.checks.ensures c.enum_told.given.1
+    after-refused (write_checks (level_at FIRST) a.key (key_slices a.h.now a.x.now a.y.now) a.t.now a.a.now) (room_row needed a.room) c.checks-checked.ensures c.in-Refused.is
 
-enum-told-2 : tie.Need-enum-told-2
-enum-told-2 c = search rules
+enum_told-in_default : tie.Need-enum_told-in_default
+enum_told-in_default c = search rules
 
 -- past the checks
-passed : (c : tie.After-enum-told2) → let a = c.before.before.before.before.before.before.before.before.args in first_of (write_checks (level_at FIRST) a.key (key_slices a.h.now a.x.now a.y.now) a.t.now a.a.now) ≡ Done
-passed c = sym c.before.before.checks.ensures ∙ c.enum-told2.given.1
+passed : (c : tie.In_default) → let a = c.args in first_of (write_checks (level_at FIRST) a.key (key_slices a.h.now a.x.now a.y.now) a.t.now a.a.now) ≡ Done
+passed c = sym c.checks-checked.ensures ∙ c.in_default.is
 
 size-requires : tie.Need-size-requires
 size-requires c κs =
-    let a = c.before.before.before.before.before.before.before.before.args in
+    let a = c.args in
     let s = stated a.key (key_slices a.h.now a.x.now a.y.now) a.t.now a.a.now (passed c) in
     (s.h, s.x, s.y, s.t-bytes, s.a-words)
 
-returns-2 : tie.Need-returns-2
-returns-2 c =
-    let a = c.before.before.before.before.before.before.before.before.before.before.args in
-    room-short a.key (key_slices a.h.now a.x.now a.y.now) a.t.now a.a.now a.serial a.room c.before.size.result (passed c.before.before) (c.before.size.ensures a.key) (omega arith)
+returns-then-room-size : tie.Need-returns-then-room-size
+returns-then-room-size c =
+    let a = c.args in
+    room-short a.key (key_slices a.h.now a.x.now a.y.now) a.t.now a.a.now a.serial a.room c.size.result (passed c.before.before) (c.size.ensures a.key) (omega arith)
 
-returns-3 : tie.Need-returns-3
-returns-3 c =
-    let a = c.before.before.before.before.before.before.before.before.before.before.args in
-    room-enough a.key (key_slices a.h.now a.x.now a.y.now) a.t.now a.a.now a.serial a.room c.before.size.result (passed c.before.before) (c.before.size.ensures a.key) (omega arith)
+returns-else-room-size : tie.Need-returns-else-room-size
+returns-else-room-size c =
+    let a = c.args in
+    room-enough a.key (key_slices a.h.now a.x.now a.y.now) a.t.now a.a.now a.serial a.room c.size.result (passed c.before.before) (c.size.ensures a.key) (omega arith)
 
-pub refused-spec : {M : Type 1} → statement M
-refused-spec =
+pub refused_spec : {M : Type 1} → statement M
+refused_spec =
     tie.close
-    (tie.spec checks-requires enum_told returns enum-told-2 size-requires returns-2 returns-3)
+    (tie.spec
+    checks-checked-requires
+    enum_told-1
+    returns-in-Refused
+    enum_told-in_default
+    size-requires
+    returns-then-room-size
+    returns-else-room-size)

@@ -8,17 +8,23 @@ use borrow.Author.Rules.{rules}
 use Rattle.writer.proofs.serial_size.Statement.{statement}
 use Rattle.writer.proofs.serial_size.Tie as tie
 
-add-result : tie.Need-overflow-add-result
-add-result c = search rules
+overflow_add-result : tie.Need-overflow_add-result
+overflow_add-result c = search rules
 
-add-result-2 : tie.Need-overflow-add-result-2
-add-result-2 c = search rules
+overflow_add-result-else-serial-lt65536 : tie.Need-overflow_add-result-else-serial-lt65536
+overflow_add-result-else-serial-lt65536 c = search rules
 
-returns : tie.Need-returns
-returns c = let x = c.before.args.serial in (omega (arith, field_length 0x05 (serial_bytes x), ap length (in_two x (omega arith))), omega arith)
+returns-then-serial-lt65536 : tie.Need-returns-then-serial-lt65536
+returns-then-serial-lt65536 c = let x = c.args.serial in (omega (arith, field_length 0x05 (serial_bytes x), ap length (in_two x (omega arith))), omega arith)
 
-returns-2 : tie.Need-returns-2
-returns-2 c = let x = c.before.args.serial in (omega (arith, field_length 0x05 (serial_bytes x), ap length (in_four x (omega arith))), omega arith)
+returns-else-serial-lt65536 : tie.Need-returns-else-serial-lt65536
+returns-else-serial-lt65536 c = let x = c.args.serial in (omega (arith, field_length 0x05 (serial_bytes x), ap length (in_four x (omega arith))), omega arith)
 
-pub serial-size-spec : {M : Type 1} → statement M
-serial-size-spec = tie.close (tie.spec add-result add-result-2 returns returns-2)
+pub serial_size_spec : {M : Type 1} → statement M
+serial_size_spec =
+    tie.close
+    (tie.spec
+    overflow_add-result
+    overflow_add-result-else-serial-lt65536
+    returns-then-serial-lt65536
+    returns-else-serial-lt65536)

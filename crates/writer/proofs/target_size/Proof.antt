@@ -11,21 +11,28 @@ use Rattle.writer.proofs.target_size.Tie as tie
 zero-requires : tie.Need-zero-requires
 zero-requires c κs = search rules
 
-returns : tie.Need-returns
+returns-then-zero : tie.Need-returns-then-zero
 unfolding joined
-returns c = (sym (ap (λ f. length (joined f)) (absent _ (sym c.before.zero.ensures ∙ c.if1.true))), omega arith)
+returns-then-zero c = (sym (ap (λ f. length (joined f)) (absent _ (sym c.zero.ensures ∙ c.if-zero.true))), omega arith)
 
-mul-result : tie.Need-overflow-mul-result
-mul-result c = search rules
+overflow_mul-result : tie.Need-overflow_mul-result
+overflow_mul-result c = search rules
 
-add-result : tie.Need-overflow-add-result
-add-result c = search rules
+overflow_add-result : tie.Need-overflow_add-result
+overflow_add-result c = search rules
 
-returns-2 : tie.Need-returns-2
-returns-2 c =
-    let y = c.before.before.before.args.y.now in
-    let e = ap (λ f. length (joined f)) (present y (sym c.before.zero.ensures ∙ c.if1.false)) in
+returns-else-zero : tie.Need-returns-else-zero
+returns-else-zero c =
+    let y = c.args.y.now in
+    let e = ap (λ f. length (joined f)) (present y (sym c.zero.ensures ∙ c.if-zero.false)) in
     (omega (arith, e, words-length 0x04 y), omega arith)
 
-pub target-size-spec : {M : Type 1} → statement M
-target-size-spec = tie.close (tie.spec zero-requires mul-result add-result returns returns-2)
+pub target_size_spec : {M : Type 1} → statement M
+target_size_spec =
+    tie.close
+    (tie.spec
+    zero-requires
+    overflow_mul-result
+    overflow_add-result
+    returns-then-zero
+    returns-else-zero)

@@ -7,61 +7,61 @@ use borrow.Author.Rules.{rules}
 use Rattle.checkfile.proofs.check.Statement.{statement}
 use Rattle.checkfile.proofs.check.Tie as tie
 
-read-check-file-requires : tie.Need-read-check-file-requires
-read-check-file-requires c κs = search rules
+read_check_file-requires : tie.Need-read_check_file-requires
+read_check_file-requires c κs = search rules
 
-enum-known-refusal : tie.Need-enum-known-refusal
-enum-known-refusal c = search rules
+enum_known-refusal : tie.Need-enum_known-refusal
+enum_known-refusal c = search rules
 
-enum-known-contents : tie.Need-enum-known-contents
-enum-known-contents c = search rules
+enum_known-contents : tie.Need-enum_known-contents
+enum_known-contents c = search rules
 
 judge-requires : tie.Need-judge-requires
-judge-requires c κs = read-accepts (check_file_reader (level_at FIRST)) c.before.before.before.before.before.args.bytes.now (sym c.before.before.before.read-check-file.ensures ∙ c.before.contents.given.1)
+judge-requires c κs = read-accepts (check_file_reader (level_at FIRST)) c.args.bytes.now (sym c.read_check_file.ensures ∙ c.in-Fields.is)
 
-enum_told : tie.Need-enum-told
-enum_told c = search rules
+enum_told-1 : tie.Need-enum_told-1
+enum_told-1 c = search rules
 
-enum-told-2 : tie.Need-enum-told-2
-enum-told-2 c = search rules
+enum_told-in-Rejected : tie.Need-enum_told-in-Rejected
+enum_told-in-Rejected c = search rules
 
-enum-known-refusal-2 : tie.Need-enum-known-refusal-2
-enum-known-refusal-2 c = search rules
+enum_known-refusal-in-Refused-judge : tie.Need-enum_known-refusal-in-Refused-judge
+enum_known-refusal-in-Refused-judge c = search rules
 
-returns : tie.Need-returns
-returns c =
-    told c.before.before.before.before.before.args.bytes.now (sym c.before.refusal.given.1 ∙ c.before.before.before.read-check-file.ensures) refl
+returns-in-Refused : tie.Need-returns-in-Refused
+returns-in-Refused c =
+    told c.args.bytes.now (sym c.in-Refused.is ∙ c.read_check_file.ensures) refl
 
-returns-2 : tie.Need-returns-2
-returns-2 c =
-    let s = c.before.before.before.before.before.before.before.before.args.bytes.now in
-    let e = sym c.before.before.before.before.contents.given.1 ∙ c.before.before.before.before.before.before.read-check-file.ensures in
-    told s e (sym c.enum_told.given.1 ∙ c.before.before.judge.ensures)
+returns-in-Accepted : tie.Need-returns-in-Accepted
+returns-in-Accepted c =
+    let s = c.args.bytes.now in
+    let e = sym c.in-Fields.is ∙ c.read_check_file.ensures in
+    told s e (sym c.in-Accepted.is ∙ c.judge.ensures)
 
-returns-3 : tie.Need-returns-3
-returns-3 c =
-    let s = c.before.before.before.before.before.before.before.before.args.bytes.now in
-    let e = sym c.before.before.before.before.contents.given.1 ∙ c.before.before.before.before.before.before.read-check-file.ensures in
-    told s e (sym c.enum-told2.given.1 ∙ c.before.before.judge.ensures)
+returns-in-Rejected : tie.Need-returns-in-Rejected
+returns-in-Rejected c =
+    let s = c.args.bytes.now in
+    let e = sym c.in-Fields.is ∙ c.read_check_file.ensures in
+    told s e (sym c.in-Rejected.is ∙ c.judge.ensures)
 
-returns-4 : tie.Need-returns-4
-returns-4 c =
-    let s = c.before.before.before.before.before.before.before.before.before.args.bytes.now in
-    let e = sym c.before.before.before.before.before.contents.given.1 ∙ c.before.before.before.before.before.before.before.read-check-file.ensures in
-    told s e (sym c.before.refusal2.given.1 ∙ c.before.before.before.judge.ensures)
+returns-in-Refused-judge : tie.Need-returns-in-Refused-judge
+returns-in-Refused-judge c =
+    let s = c.args.bytes.now in
+    let e = sym c.in-Fields.is ∙ c.read_check_file.ensures in
+    told s e (sym c.in-Refused-judge.is ∙ c.judge.ensures)
 
-pub check-spec : {M : Type 1} → statement M
-check-spec =
+pub check_spec : {M : Type 1} → statement M
+check_spec =
     tie.close
     (tie.spec
-    read-check-file-requires
-    enum-known-refusal
-    enum-known-contents
+    read_check_file-requires
+    enum_known-refusal
+    enum_known-contents
     judge-requires
-    enum_told
-    enum-told-2
-    enum-known-refusal-2
-    returns
-    returns-2
-    returns-3
-    returns-4)
+    enum_told-1
+    enum_told-in-Rejected
+    enum_known-refusal-in-Refused-judge
+    returns-in-Refused
+    returns-in-Accepted
+    returns-in-Rejected
+    returns-in-Refused-judge)

@@ -8,84 +8,83 @@ use borrow.Author.Rules.{rules}
 use Rattle.checkfile.proofs.judge.Statement.{statement}
 use Rattle.checkfile.proofs.judge.Tie as tie
 
-bytes-known : (c : tie.After-shared-slice-known) → Bytes c.before.args.bytes.now
-bytes-known c = λ i. omega (arith, c.shared-slice-known.given i)
+bytes-known : (c : tie.After-shared_slice_known-1) → Bytes c.args.bytes.now
+bytes-known c = λ i. omega (arith, c.shared_slice_known-1.given i)
 
-slice-aggregate-load : tie.Need-slice-aggregate-load
-slice-aggregate-load c = search rules
+slice_bounds-load-end : tie.Need-slice_bounds-load-end
+slice_bounds-load-end c = search rules
+
+load-h_len-requires : tie.Need-load-h_len-requires
+load-h_len-requires c κs = (c.requires.0, omega (arith, matrix c.args.bytes.now (bytes-known c.before) c.requires.0))
+
+slice_bounds-load-end-2 : tie.Need-slice_bounds-load-end-2
+slice_bounds-load-end-2 c = search rules
+
+load-x_len-requires : tie.Need-load-x_len-requires
+load-x_len-requires c κs = (c.requires.0, omega (arith, vector c.args.bytes.now (bytes-known c.before.before.before.before) c.requires.0))
+
+slice_bounds-load-end-3 : tie.Need-slice_bounds-load-end-3
+slice_bounds-load-end-3 c = search rules
 
 load-requires : tie.Need-load-requires
-load-requires c κs = (c.before.before.requires.0, omega (arith, matrix c.before.before.args.bytes.now (bytes-known c.before) c.before.before.requires.0))
+load-requires c κs = (c.requires.0, omega (arith, target c.args.bytes.now (bytes-known c.before.before.before.before.before.before.before) c.requires.0))
 
-slice-aggregate-load-2 : tie.Need-slice-aggregate-load-2
-slice-aggregate-load-2 c = search rules
+slice_bounds-load-end-4 : tie.Need-slice_bounds-load-end-4
+slice_bounds-load-end-4 c = search rules
 
-load-requires-2 : tie.Need-load-requires-2
-load-requires-2 c κs = (c.before.before.before.before.before.requires.0, omega (arith, vector c.before.before.before.before.before.args.bytes.now (bytes-known c.before.before.before.before) c.before.before.before.before.before.requires.0))
+load-a_len-requires : tie.Need-load-a_len-requires
+load-a_len-requires c κs = (c.requires.0, omega (arith, proof c.args.bytes.now (bytes-known c.before.before.before.before.before.before.before.before.before.before) c.requires.0))
 
-slice-aggregate-load-3 : tie.Need-slice-aggregate-load-3
-slice-aggregate-load-3 c = search rules
+slice_bounds-h-end : tie.Need-slice_bounds-h-end
+slice_bounds-h-end c = search rules
 
-load-requires-3 : tie.Need-load-requires-3
-load-requires-3 c κs = (c.before.before.before.before.before.before.before.before.requires.0, omega (arith, target c.before.before.before.before.before.before.before.before.args.bytes.now (bytes-known c.before.before.before.before.before.before.before) c.before.before.before.before.before.before.before.before.requires.0))
+slice_bounds-judge_with-end : tie.Need-slice_bounds-judge_with-end
+slice_bounds-judge_with-end c = search rules
 
-slice-aggregate-load-4 : tie.Need-slice-aggregate-load-4
-slice-aggregate-load-4 c = search rules
+slice_bounds-x-end : tie.Need-slice_bounds-x-end
+slice_bounds-x-end c = search rules
 
-load-requires-4 : tie.Need-load-requires-4
-load-requires-4 c κs = (c.before.before.before.before.before.before.before.before.before.before.before.requires.0, omega (arith, proof c.before.before.before.before.before.before.before.before.before.before.before.args.bytes.now (bytes-known c.before.before.before.before.before.before.before.before.before.before) c.before.before.before.before.before.before.before.before.before.before.before.requires.0))
+slice_bounds-judge_with-end-2 : tie.Need-slice_bounds-judge_with-end-2
+slice_bounds-judge_with-end-2 c = search rules
 
-array-share-prefix-h : tie.Need-array-share-prefix-h
-array-share-prefix-h c = search rules
+slice_bounds-y-end : tie.Need-slice_bounds-y-end
+slice_bounds-y-end c = omega (arith, rows c.args.bytes.now (bytes-known c.before.before.before.before.before.before.before.before.before.before.before.before.before.before) c.requires.0, ap (λ (k : Key). k.m) c.requires.1)
 
-slice-aggregate-judge-with : tie.Need-slice-aggregate-judge-with
-slice-aggregate-judge-with c = search rules
+slice_bounds-judge_with-end-3 : tie.Need-slice_bounds-judge_with-end-3
+slice_bounds-judge_with-end-3 c = sym (length-take-le _ _ (slice_bounds-y-end c.before))
 
-array-share-prefix-x : tie.Need-array-share-prefix-x
-array-share-prefix-x c = search rules
+slice_bounds-a-end : tie.Need-slice_bounds-a-end
+slice_bounds-a-end c = search rules
 
-slice-aggregate-judge-with-2 : tie.Need-slice-aggregate-judge-with-2
-slice-aggregate-judge-with-2 c = search rules
+slice_bounds-judge_with-end-4 : tie.Need-slice_bounds-judge_with-end-4
+slice_bounds-judge_with-end-4 c = search rules
 
-array-share-prefix-y : tie.Need-array-share-prefix-y
-array-share-prefix-y c = let s = c.before.before.before.before.before.before.before.before.before.before.before.before.before.before.before in omega (arith, rows s.args.bytes.now (bytes-known c.before.before.before.before.before.before.before.before.before.before.before.before.before.before) s.requires.0, ap (λ (k : Key). k.m) s.requires.1)
-
-slice-aggregate-judge-with-3 : tie.Need-slice-aggregate-judge-with-3
-slice-aggregate-judge-with-3 c = sym (length-take-le _ _ (array-share-prefix-y c.before))
-
-array-share-prefix-a : tie.Need-array-share-prefix-a
-array-share-prefix-a c = search rules
-
-slice-aggregate-judge-with-4 : tie.Need-slice-aggregate-judge-with-4
-slice-aggregate-judge-with-4 c = search rules
-
-judge-with-requires : tie.Need-judge-with-requires
-judge-with-requires c κs = search rules
+judge_with-requires : tie.Need-judge_with-requires
+judge_with-requires c κs = search rules
 
 returns : tie.Need-returns
 returns c =
-    let s = c.before.before.before.before.before.before.before.before.before.before.before.before.before.before.before.before.before.before in
-    rw (c.judge-with.ensures, s.requires.1, c.before.before.before.before.before.before.before.before.before.before.before.before.before.before.before.load.ensures.0, c.before.before.before.before.before.before.before.before.before.before.before.before.load2.ensures.0, c.before.before.before.before.before.before.before.before.before.load3.ensures.3, target-put s.args.bytes.now (bytes-known c.before.before.before.before.before.before.before.before.before.before.before.before.before.before.before.before.before) s.requires.0, c.before.before.before.before.before.before.load4.ensures.0)
+    rw (c.judge_with.ensures, c.requires.1, c.load-h_len.ensures.0, c.load-x_len.ensures.0, c.load.ensures.3, target-put c.args.bytes.now (bytes-known c.before.before.before.before.before.before.before.before.before.before.before.before.before.before.before.before.before) c.requires.0, c.load-a_len.ensures.0)
 
-pub judge-spec : {M : Type 1} → statement M
-judge-spec =
+pub judge_spec : {M : Type 1} → statement M
+judge_spec =
     tie.close
     (tie.spec
-    slice-aggregate-load
+    slice_bounds-load-end
+    load-h_len-requires
+    slice_bounds-load-end-2
+    load-x_len-requires
+    slice_bounds-load-end-3
     load-requires
-    slice-aggregate-load-2
-    load-requires-2
-    slice-aggregate-load-3
-    load-requires-3
-    slice-aggregate-load-4
-    load-requires-4
-    array-share-prefix-h
-    slice-aggregate-judge-with
-    array-share-prefix-x
-    slice-aggregate-judge-with-2
-    array-share-prefix-y
-    slice-aggregate-judge-with-3
-    array-share-prefix-a
-    slice-aggregate-judge-with-4
-    judge-with-requires
+    slice_bounds-load-end-4
+    load-a_len-requires
+    slice_bounds-h-end
+    slice_bounds-judge_with-end
+    slice_bounds-x-end
+    slice_bounds-judge_with-end-2
+    slice_bounds-y-end
+    slice_bounds-judge_with-end-3
+    slice_bounds-a-end
+    slice_bounds-judge_with-end-4
+    judge_with-requires
     returns)

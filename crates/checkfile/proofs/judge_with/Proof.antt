@@ -9,90 +9,90 @@ use borrow.Author.Rules.{rules}
 use Rattle.checkfile.proofs.judge_with.Statement.{statement}
 use Rattle.checkfile.proofs.judge_with.Tie as tie
 
-bytes-known : (c : tie.After-shared-slice-known) → Bytes c.before.args.bytes.now
-bytes-known c = λ i. omega (arith, c.shared-slice-known.given i)
+bytes-known : (c : tie.After-shared_slice_known-1) → Bytes c.args.bytes.now
+bytes-known c = λ i. omega (arith, c.shared_slice_known-1.given i)
 
 -- t is the content of its field
-is : (c : tie.After-content) → let a = c.before.before.before.before.before.before.before.before.before.before.before.before.before.before.before.before.before.before.args in c.content.result.now ≡ content (level_at FIRST) a.bytes.now 0x06
-is c = let g = c.before.before.before.before.before.before.before.before.before.before.before.before.before.before.before.before.before.before in content-is c.content.result g.args.bytes 0x06 g.requires c.content.ensures
+is : (c : tie.After-content-t) → let a = c.args in c.content-t.result.now ≡ content (level_at FIRST) a.bytes.now 0x06
+is c = content-is c.content-t.result c.args.bytes 0x06 c.requires c.content-t.ensures
 
-slice-aggregate-load : tie.Need-slice-aggregate-load
-slice-aggregate-load c = search rules
+slice_bounds-load-end : tie.Need-slice_bounds-load-end
+slice_bounds-load-end c = search rules
 
-load-requires : tie.Need-load-requires
-load-requires c κs = (c.before.before.before.before.before.before.requires, omega (arith, elements c.before.before.before.before.before.before.args.bytes.now (bytes-known c.before.before.before.before.before) c.before.before.before.before.before.before.requires))
+load-q_len-requires : tie.Need-load-q_len-requires
+load-q_len-requires c κs = (c.requires, omega (arith, elements c.args.bytes.now (bytes-known c.before.before.before.before.before) c.requires))
 
-slice-aggregate-load-2 : tie.Need-slice-aggregate-load-2
-slice-aggregate-load-2 c = search rules
+slice_bounds-load-end-2 : tie.Need-slice_bounds-load-end-2
+slice_bounds-load-end-2 c = search rules
 
-load-requires-2 : tie.Need-load-requires-2
-load-requires-2 c κs = (c.before.before.before.before.before.before.before.before.before.requires, omega (arith, masks c.before.before.before.before.before.before.before.before.before.args.bytes.now (bytes-known c.before.before.before.before.before.before.before.before) c.before.before.before.before.before.before.before.before.before.requires))
+load-masks_len-requires : tie.Need-load-masks_len-requires
+load-masks_len-requires c κs = (c.requires, omega (arith, masks c.args.bytes.now (bytes-known c.before.before.before.before.before.before.before.before) c.requires))
 
-slice-aggregate-load-3 : tie.Need-slice-aggregate-load-3
-slice-aggregate-load-3 c = search rules
+slice_bounds-load-end-3 : tie.Need-slice_bounds-load-end-3
+slice_bounds-load-end-3 c = search rules
 
-load-requires-3 : tie.Need-load-requires-3
-load-requires-3 c κs = (c.before.before.before.before.before.before.before.before.before.before.before.before.requires, omega (arith, one c.before.before.before.before.before.before.before.before.before.before.before.before.args.bytes.now (bytes-known c.before.before.before.before.before.before.before.before.before.before.before) c.before.before.before.before.before.before.before.before.before.before.before.before.requires))
+load-delta_len-requires : tie.Need-load-delta_len-requires
+load-delta_len-requires c κs = (c.requires, omega (arith, one c.args.bytes.now (bytes-known c.before.before.before.before.before.before.before.before.before.before.before) c.requires))
 
-slice-aggregate-load-4 : tie.Need-slice-aggregate-load-4
-slice-aggregate-load-4 c = search rules
+slice_bounds-load-end-4 : tie.Need-slice_bounds-load-end-4
+slice_bounds-load-end-4 c = search rules
 
-load-requires-4 : tie.Need-load-requires-4
-load-requires-4 c κs = (c.before.before.before.before.before.before.before.before.before.before.before.before.before.before.before.requires, omega (arith, values c.before.before.before.before.before.before.before.before.before.before.before.before.before.before.before.args.bytes.now (bytes-known c.before.before.before.before.before.before.before.before.before.before.before.before.before.before) c.before.before.before.before.before.before.before.before.before.before.before.before.before.before.before.requires))
+load-alpha_len-requires : tie.Need-load-alpha_len-requires
+load-alpha_len-requires c κs = (c.requires, omega (arith, values c.args.bytes.now (bytes-known c.before.before.before.before.before.before.before.before.before.before.before.before.before.before) c.requires))
 
-content-requires : tie.Need-content-requires
-content-requires c κs = search rules
+content-t-requires : tie.Need-content-t-requires
+content-t-requires c κs = search rules
 
-array-share-prefix-q : tie.Need-array-share-prefix-q
-array-share-prefix-q c = search rules
+slice_bounds-q-end : tie.Need-slice_bounds-q-end
+slice_bounds-q-end c = search rules
 
-slice-aggregate-verify : tie.Need-slice-aggregate-verify
-slice-aggregate-verify c = search rules
+slice_bounds-verify-end : tie.Need-slice_bounds-verify-end
+slice_bounds-verify-end c = search rules
 
-array-share-prefix-delta : tie.Need-array-share-prefix-delta
-array-share-prefix-delta c = search rules
+slice_bounds-delta-end : tie.Need-slice_bounds-delta-end
+slice_bounds-delta-end c = search rules
 
-slice-aggregate-verify-2 : tie.Need-slice-aggregate-verify-2
-slice-aggregate-verify-2 c = search rules
+slice_bounds-verify-end-2 : tie.Need-slice_bounds-verify-end-2
+slice_bounds-verify-end-2 c = search rules
 
-array-share-prefix-masks : tie.Need-array-share-prefix-masks
-array-share-prefix-masks c = search rules
+slice_bounds-masks-end : tie.Need-slice_bounds-masks-end
+slice_bounds-masks-end c = search rules
 
-slice-aggregate-verify-3 : tie.Need-slice-aggregate-verify-3
-slice-aggregate-verify-3 c = search rules
+slice_bounds-verify-end-3 : tie.Need-slice_bounds-verify-end-3
+slice_bounds-verify-end-3 c = search rules
 
-array-share-prefix-alpha : tie.Need-array-share-prefix-alpha
-array-share-prefix-alpha c = search rules
+slice_bounds-alpha-end : tie.Need-slice_bounds-alpha-end
+slice_bounds-alpha-end c = search rules
 
-slice-aggregate-verify-4 : tie.Need-slice-aggregate-verify-4
-slice-aggregate-verify-4 c = search rules
+slice_bounds-verify-end-4 : tie.Need-slice_bounds-verify-end-4
+slice_bounds-verify-end-4 c = search rules
 
 verify-requires : tie.Need-verify-requires
 verify-requires c κs = search rules
 
 returns : tie.Need-returns
-returns c = rw (c.verify.ensures.0, is c.before.before.before.before.before, c.before.before.before.before.before.before.before.before.before.before.before.before.before.before.before.before.load.ensures.0, c.before.before.before.before.before.before.before.before.before.before.before.before.before.load2.ensures.0, c.before.before.before.before.before.before.before.before.before.before.load3.ensures.0, c.before.before.before.before.before.before.before.load4.ensures.0)
+returns c = rw (c.verify.ensures.0, is c.before.before.before.before.before, c.load-q_len.ensures.0, c.load-masks_len.ensures.0, c.load-delta_len.ensures.0, c.load-alpha_len.ensures.0)
 
-pub judge-with-spec : {M : Type 1} → statement M
-judge-with-spec =
+pub judge_with_spec : {M : Type 1} → statement M
+judge_with_spec =
     tie.close
     (tie.spec
-    slice-aggregate-load
-    load-requires
-    slice-aggregate-load-2
-    load-requires-2
-    slice-aggregate-load-3
-    load-requires-3
-    slice-aggregate-load-4
-    load-requires-4
-    content-requires
-    array-share-prefix-q
-    slice-aggregate-verify
-    array-share-prefix-delta
-    slice-aggregate-verify-2
-    array-share-prefix-masks
-    slice-aggregate-verify-3
-    array-share-prefix-alpha
-    slice-aggregate-verify-4
+    slice_bounds-load-end
+    load-q_len-requires
+    slice_bounds-load-end-2
+    load-masks_len-requires
+    slice_bounds-load-end-3
+    load-delta_len-requires
+    slice_bounds-load-end-4
+    load-alpha_len-requires
+    content-t-requires
+    slice_bounds-q-end
+    slice_bounds-verify-end
+    slice_bounds-delta-end
+    slice_bounds-verify-end-2
+    slice_bounds-masks-end
+    slice_bounds-verify-end-3
+    slice_bounds-alpha-end
+    slice_bounds-verify-end-4
     verify-requires
     returns)

@@ -10,108 +10,96 @@ use borrow.Author.Rules.{rules}
 use Rattle.checkfile.proofs.line.Statement.{statement}
 use Rattle.checkfile.proofs.line.Tie as tie
 
-returns : tie.Need-returns
-returns c = let a = c.before.before.args in printed-fits a.checked a.out.now (line_short a.checked a.out.now (omega arith))
+returns-then-out-lt-LINE : tie.Need-returns-then-out-lt-LINE
+returns-then-out-lt-LINE c = let a = c.args in printed-fits a.checked a.out.now (line_short a.checked a.out.now (omega arith))
 
-enum-known-checked : tie.Need-enum-known-checked
-enum-known-checked c = search rules
+enum_known-checked : tie.Need-enum_known-checked
+enum_known-checked c = search rules
 
-put-contents-requires : tie.Need-put-contents-requires
-put-contents-requires c κs = search rules
+put_contents-at-requires : tie.Need-put_contents-at-requires
+put_contents-at-requires c κs = search rules
 
-slice-aggregate-put-text : tie.Need-slice-aggregate-put-text
-slice-aggregate-put-text c = search rules
+put_text-requires : tie.Need-put_text-requires
+put_text-requires c κs = search rules
 
-put-text-requires : tie.Need-put-text-requires
-put-text-requires c κs = search rules
+enum_known-checked-in-Rejected-1 : tie.Need-enum_known-checked-in-Rejected-1
+enum_known-checked-in-Rejected-1 c = search rules
 
-enum-known-checked-2 : tie.Need-enum-known-checked-2
-enum-known-checked-2 c = search rules
+put_contents-at-requires-in-Rejected : tie.Need-put_contents-at-requires-in-Rejected
+put_contents-at-requires-in-Rejected c κs = search rules
 
-put-contents-requires-2 : tie.Need-put-contents-requires-2
-put-contents-requires-2 c κs = search rules
+put_text-requires-in-Rejected : tie.Need-put_text-requires-in-Rejected
+put_text-requires-in-Rejected c κs = search rules
 
-slice-aggregate-put-text-2 : tie.Need-slice-aggregate-put-text-2
-slice-aggregate-put-text-2 c = search rules
+enum_known-checked-in-Refused-1 : tie.Need-enum_known-checked-in-Refused-1
+enum_known-checked-in-Refused-1 c = search rules
 
-put-text-requires-2 : tie.Need-put-text-requires-2
-put-text-requires-2 c κs = search rules
+put_text-at-requires : tie.Need-put_text-at-requires
+put_text-at-requires c κs = search rules
 
-enum-known-checked-3 : tie.Need-enum-known-checked-3
-enum-known-checked-3 c = search rules
+overflow_cast-refusal : tie.Need-overflow_cast-refusal
+overflow_cast-refusal c = search rules
 
-slice-aggregate-put-text-3 : tie.Need-slice-aggregate-put-text-3
-slice-aggregate-put-text-3 c = search rules
+put_number-requires : tie.Need-put_number-requires
+put_number-requires c κs = search rules
 
-put-text-requires-3 : tie.Need-put-text-requires-3
-put-text-requires-3 c κs = search rules
+shape_of-out-in-Accepted : tie.Need-shape_of-out-in-Accepted
+shape_of-out-in-Accepted c = search rules
 
-cast-put-number : tie.Need-overflow-cast-put-number
-cast-put-number c = search rules
-
-put-number-requires : tie.Need-put-number-requires
-put-number-requires c κs = search rules
-
-same_length : tie.Need-same-length
-same_length c = search rules
-
-returns-2 : tie.Need-returns-2
+returns-in-Accepted : tie.Need-returns-in-Accepted
 unfolding line_of
-returns-2 c =
-    let s = c.before.before.before.before.before.before.before.before.before.before.before.before.before.before.args.out.now in
-    let e = c.before.before.before.before.before.before.before.put-contents.ensures in
-    let f = c.before.before.put-text.ensures in
-    let k = c.before.before.before.before.before.before.before.before.before.before.checked.given.0.0 in
+returns-in-Accepted c =
+    let s = c.args.out.now in
+    let e = c.put_contents-at.ensures in
+    let f = c.put_text.ensures in
+    let k = c.in-Accepted.contents in
     let w : Stands s 0 (said_of k) _ _ = stands-first e.0 e.1 in
-    printed-fits c.before.before.before.before.before.before.before.before.before.before.before.before.before.before.args.checked s (line_printed (Accepted k) (stands_more accepted_text 10 w (omega arith) f.0 f.1) (omega arith) ∙ ap (λ (k : Checked). printed k s) (sym c.before.before.before.before.before.before.before.before.before.before.checked.given.1))
+    printed-fits c.args.checked s (line_printed (Accepted k) (stands_more accepted_text 10 w (omega arith) f.0 f.1) (omega arith) ∙ ap (λ (k : Checked). printed k s) (sym c.in-Accepted.is))
 
-same-length-2 : tie.Need-same-length-2
-same-length-2 c = search rules
+shape_of-out-in-Rejected : tie.Need-shape_of-out-in-Rejected
+shape_of-out-in-Rejected c = search rules
 
-returns-3 : tie.Need-returns-3
+returns-in-Rejected : tie.Need-returns-in-Rejected
 unfolding line_of
-returns-3 c =
-    let s = c.before.before.before.before.before.before.before.before.before.before.before.before.before.before.args.out.now in
-    let e = c.before.before.before.before.before.before.before.put-contents2.ensures in
-    let f = c.before.before.put-text2.ensures in
-    let k = c.before.before.before.before.before.before.before.before.before.before.checked2.given.0.0 in
+returns-in-Rejected c =
+    let s = c.args.out.now in
+    let e = c.put_contents-at-in-Rejected.ensures in
+    let f = c.put_text-in-Rejected.ensures in
+    let k = c.in-Rejected.contents in
     let w : Stands s 0 (said_of k) _ _ = stands-first e.0 e.1 in
-    printed-fits c.before.before.before.before.before.before.before.before.before.before.before.before.before.before.args.checked s (line_printed (Rejected k) (stands_more rejected_text 10 w (omega arith) f.0 f.1) (omega arith) ∙ ap (λ (k : Checked). printed k s) (sym c.before.before.before.before.before.before.before.before.before.before.checked2.given.1))
+    printed-fits c.args.checked s (line_printed (Rejected k) (stands_more rejected_text 10 w (omega arith) f.0 f.1) (omega arith) ∙ ap (λ (k : Checked). printed k s) (sym c.in-Rejected.is))
 
-same-length-3 : tie.Need-same-length-3
-same-length-3 c = search rules
+shape_of-out-in-Refused : tie.Need-shape_of-out-in-Refused
+shape_of-out-in-Refused c = search rules
 
-returns-4 : tie.Need-returns-4
+returns-in-Refused : tie.Need-returns-in-Refused
 unfolding line_of
-returns-4 c =
-    let s = c.before.before.before.before.before.before.before.before.before.before.before.before.before.before.before.args.out.now in
-    let e = c.before.before.before.before.before.before.before.put-text3.ensures in
-    let f = c.before.before.put-number.ensures in
-    let k = c.before.before.before.before.before.before.before.before.before.before.before.checked3.given.0.0 in
+returns-in-Refused c =
+    let s = c.args.out.now in
+    let e = c.put_text-at.ensures in
+    let f = c.put_number.ensures in
+    let k = c.in-Refused.refusal in
     let w : Stands s 0 (refused_text ++ (32 ∷ [])) _ _ = record { is = e.0; end = e.1 } in
-    printed-fits c.before.before.before.before.before.before.before.before.before.before.before.before.before.before.before.args.checked s (line_printed (Refused k) (stands_more (decimal k.number) 10 w (omega arith) f.0 f.1) (omega arith) ∙ ap (λ (k : Checked). printed k s) (sym c.before.before.before.before.before.before.before.before.before.before.before.checked3.given.1))
+    printed-fits c.args.checked s (line_printed (Refused k) (stands_more (decimal k.number) 10 w (omega arith) f.0 f.1) (omega arith) ∙ ap (λ (k : Checked). printed k s) (sym c.in-Refused.is))
 
-pub line-spec : {M : Type 1} → statement M
-line-spec =
+pub line_spec : {M : Type 1} → statement M
+line_spec =
     tie.close
     (tie.spec
-    returns
-    enum-known-checked
-    put-contents-requires
-    slice-aggregate-put-text
-    put-text-requires
-    enum-known-checked-2
-    put-contents-requires-2
-    slice-aggregate-put-text-2
-    put-text-requires-2
-    enum-known-checked-3
-    slice-aggregate-put-text-3
-    put-text-requires-3
-    cast-put-number
-    put-number-requires
-    same_length
-    returns-2
-    same-length-2
-    returns-3
-    same-length-3
-    returns-4)
+    returns-then-out-lt-LINE
+    enum_known-checked
+    put_contents-at-requires
+    put_text-requires
+    enum_known-checked-in-Rejected-1
+    put_contents-at-requires-in-Rejected
+    put_text-requires-in-Rejected
+    enum_known-checked-in-Refused-1
+    put_text-at-requires
+    overflow_cast-refusal
+    put_number-requires
+    shape_of-out-in-Accepted
+    returns-in-Accepted
+    shape_of-out-in-Rejected
+    returns-in-Rejected
+    shape_of-out-in-Refused
+    returns-in-Refused)

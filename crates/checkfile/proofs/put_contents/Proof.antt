@@ -10,50 +10,41 @@ use borrow.Author.Rules.{rules}
 use Rattle.checkfile.proofs.put_contents.Statement.{statement}
 use Rattle.checkfile.proofs.put_contents.Tie as tie
 
-slice-aggregate-put-text : tie.Need-slice-aggregate-put-text
-slice-aggregate-put-text c = search rules
+put_text-at-requires : tie.Need-put_text-at-requires
+put_text-at-requires c κs = search rules
 
-put-text-requires : tie.Need-put-text-requires
-put-text-requires c κs = search rules
+overflow_cast-contents : tie.Need-overflow_cast-contents
+overflow_cast-contents c = search rules
 
-cast-put-number : tie.Need-overflow-cast-put-number
-cast-put-number c = search rules
+put_number-at-requires : tie.Need-put_number-at-requires
+put_number-at-requires c κs = search rules
 
-put-number-requires : tie.Need-put-number-requires
-put-number-requires c κs = search rules
+put_text-at-requires-2 : tie.Need-put_text-at-requires-2
+put_text-at-requires-2 c κs = search rules
 
-slice-aggregate-put-text-2 : tie.Need-slice-aggregate-put-text-2
-slice-aggregate-put-text-2 c = search rules
+put_number-at-requires-2 : tie.Need-put_number-at-requires-2
+put_number-at-requires-2 c κs = search rules
 
-put-text-requires-2 : tie.Need-put-text-requires-2
-put-text-requires-2 c κs = search rules
+put_text-at-requires-3 : tie.Need-put_text-at-requires-3
+put_text-at-requires-3 c κs = search rules
 
-put-number-requires-2 : tie.Need-put-number-requires-2
-put-number-requires-2 c κs = search rules
+put_number-requires : tie.Need-put_number-requires
+put_number-requires c κs = search rules
 
-slice-aggregate-put-text-3 : tie.Need-slice-aggregate-put-text-3
-slice-aggregate-put-text-3 c = search rules
-
-put-text-requires-3 : tie.Need-put-text-requires-3
-put-text-requires-3 c κs = search rules
-
-put-number-requires-3 : tie.Need-put-number-requires-3
-put-number-requires-3 c κs = search rules
-
-same_length : tie.Need-same-length
-same_length c = search rules
+shape_of-out : tie.Need-shape_of-out
+shape_of-out c = search rules
 
 returns : tie.Need-returns
 returns c =
-    let k = c.before.before.before.before.before.before.before.before.before.before.before.before.before.before.before.before.before.before.before.before.before.before.before.before.before.before.before.before.before.args.contents in
-    let s = c.before.before.before.before.before.before.before.before.before.before.before.before.before.before.before.before.before.before.before.before.before.before.before.before.before.before.before.before.before.args.out.now in
-    let e₁ = c.before.before.before.before.before.before.before.before.before.before.before.before.before.before.before.before.before.before.before.before.before.before.before.before.before.put-text.ensures in
-    let e₂ = c.before.before.before.before.before.before.before.before.before.before.before.before.before.before.before.before.before.before.before.before.put-number.ensures in
-    let e₃ = c.before.before.before.before.before.before.before.before.before.before.before.before.before.before.before.put-text2.ensures in
-    let e₄ = c.before.before.before.before.before.before.before.before.before.before.before.put-number2.ensures in
-    let e₅ = c.before.before.before.before.before.before.put-text3.ensures in
-    let e₆ = c.before.before.put-number3.ensures in
-    let room = c.before.before.before.before.before.before.before.before.before.before.before.before.before.before.before.before.before.before.before.before.before.before.before.before.before.before.before.before.before.requires in
+    let k = c.args.contents in
+    let s = c.args.out.now in
+    let e₁ = c.put_text-at.ensures in
+    let e₂ = c.put_number-at.ensures in
+    let e₃ = c.put_text-at-2.ensures in
+    let e₄ = c.put_number-at-2.ensures in
+    let e₅ = c.put_text-at-3.ensures in
+    let e₆ = c.put_number.ensures in
+    let room = c.requires in
     let at₁ = e₁.1 in
     let at₂ = e₂.2 in
     let at₃ = e₃.1 in
@@ -69,19 +60,16 @@ returns c =
     let all = six (serial_text ++ (32 ∷ [])) (decimal k.serial ++ (32 ∷ [])) (n_text ++ (32 ∷ [])) (decimal k.n ++ (32 ∷ [])) (m_text ++ (32 ∷ [])) (decimal k.m ++ (32 ∷ [])) in
     (w₆.is ∙ ap (λ a. put 0 a s) all, (first-stands w₆).1 ∙ ap length all, omega arith)
 
-pub put-contents-spec : {M : Type 1} → statement M
-put-contents-spec =
+pub put_contents_spec : {M : Type 1} → statement M
+put_contents_spec =
     tie.close
     (tie.spec
-    slice-aggregate-put-text
-    put-text-requires
-    cast-put-number
-    put-number-requires
-    slice-aggregate-put-text-2
-    put-text-requires-2
-    put-number-requires-2
-    slice-aggregate-put-text-3
-    put-text-requires-3
-    put-number-requires-3
-    same_length
+    put_text-at-requires
+    overflow_cast-contents
+    put_number-at-requires
+    put_text-at-requires-2
+    put_number-at-requires-2
+    put_text-at-requires-3
+    put_number-requires
+    shape_of-out
     returns)

@@ -4,24 +4,30 @@ use Rattle.checkfile.proofs.Text.{text_last}
 use Rattle.checkfile.proofs.put_text.Statement.{statement}
 use Rattle.checkfile.proofs.put_text.Tie as tie
 
-put-bytes-requires : tie.Need-put-bytes-requires
-put-bytes-requires c κs = search rules
+put_bytes-end-requires : tie.Need-put_bytes-end-requires
+put_bytes-end-requires c κs = search rules
 
-slice-write-out : tie.Need-slice-write-out
-slice-write-out c = search rules
+bounds-out-end : tie.Need-bounds-out-end
+bounds-out-end c = search rules
 
-add-result : tie.Need-overflow-add-result
-add-result c = search rules
+overflow_add-result : tie.Need-overflow_add-result
+overflow_add-result c = search rules
 
-same_length : tie.Need-same-length
-same_length c = search rules
+shape_of-out : tie.Need-shape_of-out
+shape_of-out c = search rules
 
 returns : tie.Need-returns
 returns c =
-    let e = c.before.before.put-bytes.ensures in
-    let a = c.before.before.before.before.before.before.args in
+    let e = c.put_bytes-end.ensures in
+    let a = c.args in
     (text_last a.out.now a.text.now a.at a.last e.0 e.1 (omega arith), omega arith)
 
-pub put-text-spec : {M : Type 1} → statement M
-put-text-spec =
-    tie.close (tie.spec put-bytes-requires slice-write-out add-result same_length returns)
+pub put_text_spec : {M : Type 1} → statement M
+put_text_spec =
+    tie.close
+    (tie.spec
+    put_bytes-end-requires
+    bounds-out-end
+    overflow_add-result
+    shape_of-out
+    returns)

@@ -10,13 +10,19 @@ check-requires c κs = search rules
 line-requires : tie.Need-line-requires
 line-requires c κs = search rules
 
-same_length : tie.Need-same-length
-same_length c = search rules
+shape_of-out : tie.Need-shape_of-out
+shape_of-out c = search rules
 
 returns : tie.Need-returns
 returns c =
-    let e = c.before.before.line.ensures in
-    (e.0 ∙ ap (λ checked. printed checked c.before.before.before.before.before.before.before.args.out.now) c.before.before.before.before.check.ensures, e.1)
+    let e = c.line.ensures in
+    (e.0 ∙ ap (λ checked. printed checked c.args.out.now) c.check.ensures, e.1)
 
-pub report-spec : {M : Type 1} → statement M
-report-spec = tie.close (tie.spec check-requires line-requires same_length returns)
+pub report_spec : {M : Type 1} → statement M
+report_spec =
+    tie.close
+    (tie.spec
+    check-requires
+    line-requires
+    shape_of-out
+    returns)

@@ -37,74 +37,68 @@ start-two : (c : tie.Start) → c.args.two.start ≡ key_end (level_at FIRST) c.
 start-two c = ap (λ (g : Groups). g.start) (two_is c)
 
 -- the bytes lent
-bytes_one : (c : tie.After-shared-slice-known) → Bytes c.before.args.first.now
-bytes_one c i = omega (arith, c.shared-slice-known.given i)
+bytes_one : (c : tie.After-shared_slice_known-1) → Bytes c.args.first.now
+bytes_one c i = omega (arith, c.shared_slice_known-1.given i)
 
-bytes-two : (c : tie.After-shared-slice-known2) → Bytes c.before.before.args.second.now
-bytes-two c i = omega (arith, c.shared-slice-known2.given i)
+bytes-two : (c : tie.After-shared_slice_known-2-1) → Bytes c.args.second.now
+bytes-two c i = omega (arith, c.shared_slice_known-2-1.given i)
 
-slice-aggregate-same : tie.Need-slice-aggregate-same
-slice-aggregate-same c = let d = c.before.before.before in sym (length-take-le d.args.one.start d.args.first.now (subst (λ i. i ≤ length d.args.first.now) (sym (start-one d)) (key-within d.args.first.now (bytes_one c.before.before) d.requires.0.0)))
+slice_bounds-same-end : tie.Need-slice_bounds-same-end
+slice_bounds-same-end c = sym (length-take-le c.args.one.start c.args.first.now (subst (λ i. i ≤ length c.args.first.now) (sym (start-one c.before.before)) (key-within c.args.first.now (bytes_one c.before) c.requires.0.0)))
 
-slice-aggregate-same-2 : tie.Need-slice-aggregate-same-2
-slice-aggregate-same-2 c = let d = c.before.before.before.before in sym (length-take-le d.args.two.start d.args.second.now (subst (λ i. i ≤ length d.args.second.now) (sym (start-two d)) (key-within d.args.second.now (bytes-two c.before.before) d.requires.0.1)))
+slice_bounds-same-end-2 : tie.Need-slice_bounds-same-end-2
+slice_bounds-same-end-2 c = sym (length-take-le c.args.two.start c.args.second.now (subst (λ i. i ≤ length c.args.second.now) (sym (start-two c.before.before)) (key-within c.args.second.now (bytes-two c) c.requires.0.1)))
 
 same-requires : tie.Need-same-requires
 same-requires c κs = search rules
 
 -- whether the key fields are the same
-keyed : (c : tie.After-same) → let a = c.before.before.before.before.before.args in c.same.result ≡ same (key_bytes (level_at FIRST) a.first.now) (key_bytes (level_at FIRST) a.second.now)
+keyed : (c : tie.After-same) → let a = c.args in c.same.result ≡ same (key_bytes (level_at FIRST) a.first.now) (key_bytes (level_at FIRST) a.second.now)
 keyed c =
-    let d = c.before.before.before.before.before in
-    c.same.ensures ∙ ap₂ (λ (p q : ℕ). same (take p d.args.first.now) (take q d.args.second.now)) (start-one d) (start-two d)
+    c.same.ensures ∙ ap₂ (λ (p q : ℕ). same (take p c.args.first.now) (take q c.args.second.now)) (start-one c.before.before.before) (start-two c.before.before.before)
 
-returns : tie.Need-returns
-returns c =
-    let d = c.before.before.before.before.before.before in
-    by_key d.args.first.now d.args.second.now d.args.room d.requires.0.0 d.requires.0.1 (sym (keyed c.before) ∙ not-true _ c.if1.true)
+returns-then-not-same : tie.Need-returns-then-not-same
+returns-then-not-same c =
+    by_key c.args.first.now c.args.second.now c.args.room c.requires.0.0 c.requires.0.1 (sym (keyed c.before) ∙ c.if-not-same.true)
 
 -- bundles of one key
-alike : (c : tie.Else1) → let a = c.before.before.before.before.before.before.args in same (key_bytes (level_at FIRST) a.first.now) (key_bytes (level_at FIRST) a.second.now) ≡ true
-alike c = sym (keyed c.before) ∙ not-false _ c.if1.false
+alike : (c : tie.Else-not-same) → let a = c.args in same (key_bytes (level_at FIRST) a.first.now) (key_bytes (level_at FIRST) a.second.now) ≡ true
+alike c = sym (keyed c.before) ∙ c.if-not-same.false
 
-matched : (c : tie.Else1) → let a = c.before.before.before.before.before.before.args in Mates (level_at FIRST) a.first.now a.second.now (key_end (level_at FIRST) a.first.now)
+matched : (c : tie.Else-not-same) → let a = c.args in Mates (level_at FIRST) a.first.now a.second.now (key_end (level_at FIRST) a.first.now)
 matched c =
-    let d = c.before.before.before.before.before.before in
-    mates d.args.first.now d.args.second.now (bytes_one c.before.before.before.before.before) (bytes-two c.before.before.before.before) d.requires.0.0 d.requires.0.1 (alike c)
+    mates c.args.first.now c.args.second.now (bytes_one c.before.before.before) (bytes-two c.before.before) c.requires.0.0 c.requires.0.1 (alike c)
 
-count-shared-requires : tie.Need-count-shared-requires
-count-shared-requires c κs = subst (Mates (level_at FIRST) _ _) (sym (start-one c.before.before.before.before.before.before)) (matched c)
+count_shared-requires : tie.Need-count_shared-requires
+count_shared-requires c κs = subst (Mates (level_at FIRST) _ _) (sym (start-one c.before.before.before.before)) (matched c)
 
-enum_told : tie.Need-enum-told
-enum_told c = search rules
+enum_told-1 : tie.Need-enum_told-1
+enum_told-1 c = search rules
 
-enum-known-both : tie.Need-enum-known-both
-enum-known-both c = search rules
+enum_known-both : tie.Need-enum_known-both
+enum_known-both c = search rules
 
 -- what both share, and the sizes that follow
-shared : (c : tie.After-count-shared) {x : Shared} → c.count-shared.result ≡ tally.Shared x → let a = c.before.before.before.before.before.before.before.args in Counted (groups_of (level_at FIRST) a.first.now) (groups_of (level_at FIRST) a.second.now) x.number x.length
-shared c e = let a = c.before.before.before.before.before.before.before.args in subst (Tallied (groups_of (level_at FIRST) a.first.now) (groups_of (level_at FIRST) a.second.now)) e c.count-shared.ensures
+shared : (c : tie.After-count_shared) {x : Shared} → c.count_shared.result ≡ tally.Shared x → let a = c.args in Counted (groups_of (level_at FIRST) a.first.now) (groups_of (level_at FIRST) a.second.now) x.number x.length
+shared c e = let a = c.args in subst (Tallied (groups_of (level_at FIRST) a.first.now) (groups_of (level_at FIRST) a.second.now)) e c.count_shared.ensures
 
-sized : (c : tie.After-count-shared) {x : Shared} → c.count-shared.result ≡ tally.Shared x → let d = c.before.before.before.before.before.before.before in Sizes d.args.first.now d.args.second.now (bytes_one c.before.before.before.before.before.before) (bytes-two c.before.before.before.before.before) d.requires.0.0 d.requires.0.1 x.number x.length
+sized : (c : tie.After-count_shared) {x : Shared} → c.count_shared.result ≡ tally.Shared x → Sizes c.args.first.now c.args.second.now (bytes_one c.before.before.before.before) (bytes-two c.before.before.before) c.requires.0.0 c.requires.0.1 x.number x.length
 sized c e =
-    let d = c.before.before.before.before.before.before.before in
-    sizes d.args.first.now d.args.second.now (bytes_one c.before.before.before.before.before.before) (bytes-two c.before.before.before.before.before) d.requires.0.0 d.requires.0.1 (matched c.before).from_second (shared c e)
+    sizes c.args.first.now c.args.second.now (bytes_one c.before.before.before.before) (bytes-two c.before.before.before) c.requires.0.0 c.requires.0.1 (matched c.before).from_second (shared c e)
 
-sub-length : tie.Need-overflow-sub-length
-sub-length c = (sized c.before.before.before.before c.before.before.both.given.1).short
+overflow_sub-length : tie.Need-overflow_sub-length
+overflow_sub-length c = (sized c.before.before c.in-Shared.is).short
 
-sub-length-2 : tie.Need-overflow-sub-length-2
-sub-length-2 c = omega (arith, start-one c.before.before.before.before.before.before.before.before.before.before.before, (sized c.before.before.before.before c.before.before.both.given.1).start)
+overflow_sub-length-in-Shared : tie.Need-overflow_sub-length-in-Shared
+overflow_sub-length-in-Shared c = omega (arith, start-one c.before.before.before.before.before.before.before, (sized c.before.before c.in-Shared.is).start)
 
-add-length : tie.Need-overflow-add-length
-add-length c = omega arith
+overflow_add-length : tie.Need-overflow_add-length
+overflow_add-length c = omega arith
 
-returns-2 : tie.Need-returns-2
-returns-2 c =
-    let m = c.before.before.before.before.before in
-    let d = m.before.before.before.before.before.before.before in
-    let e = c.before.before.before.both.given.1 in
-    by_room d.args.first.now d.args.second.now d.args.room d.requires.0.0 d.requires.0.1 (alike m.before) (shared m e).agree (omega (arith, c.if2.true, start-one d, (sized m e).bytes))
+returns-then-room-length : tie.Need-returns-then-room-length
+returns-then-room-length c =
+    let e = c.in-Shared.is in
+    by_room c.args.first.now c.args.second.now c.args.room c.requires.0.0 c.requires.0.1 (alike c.before.before.before.before) (shared c.before.before.before e).agree (omega (arith, c.if-room-length.true, start-one c.before.before.before.before.before.before.before.before, (sized c.before.before.before e).bytes))
 
 -- how many groups each bundle has
 number-one : (c : tie.Start) → c.args.one.number ≡ length (starts (level_at FIRST) c.args.first.now)
@@ -113,51 +107,44 @@ number-one c = ap (λ (g : Groups). g.number) (one-is c)
 number-two : (c : tie.Start) → c.args.two.number ≡ length (starts (level_at FIRST) c.args.second.now)
 number-two c = ap (λ (g : Groups). g.number) (two_is c)
 
-sub-groups : tie.Need-overflow-sub-groups
-sub-groups c =
-    let m = c.before.before.before.before.before.before.before in
-    omega (arith, number-one m.before.before.before.before.before.before.before, (sized m c.before.before.before.before.before.both.given.1).few)
+overflow_sub-groups : tie.Need-overflow_sub-groups
+overflow_sub-groups c =
+    omega (arith, number-one c.before.before.before.before.before.before.before.before.before.before, (sized c.before.before.before.before.before c.in-Shared.is).few)
 
-add-groups : tie.Need-overflow-add-groups
-add-groups c =
-    let m = c.before.before.before.before.before.before.before.before in
-    let d = m.before.before.before.before.before.before.before in
-    let z = sized m c.before.before.before.before.before.before.both.given.1 in
-    omega (arith, number-one d, number-two d, z.small)
+overflow_add-groups : tie.Need-overflow_add-groups
+overflow_add-groups c =
+    let z = sized c.before.before.before.before.before.before c.in-Shared.is in
+    omega (arith, number-one c.before.before.before.before.before.before.before.before.before.before.before, number-two c.before.before.before.before.before.before.before.before.before.before.before, z.small)
 
-returns-3 : tie.Need-returns-3
-returns-3 c =
-    let m = c.before.before in
-    let d = m.before.before.before.before.before.before.before in
-    by_groups d.args.first.now d.args.second.now d.args.room d.requires.0.0 d.requires.0.1 (alike m.before) (subst (Tallied (groups_of (level_at FIRST) d.args.first.now) (groups_of (level_at FIRST) d.args.second.now)) c.enum_told.given.1 m.count-shared.ensures)
+returns-in-Differ : tie.Need-returns-in-Differ
+returns-in-Differ c =
+    by_groups c.args.first.now c.args.second.now c.args.room c.requires.0.0 c.requires.0.1 (alike c.before.before) (subst (Tallied (groups_of (level_at FIRST) c.args.first.now) (groups_of (level_at FIRST) c.args.second.now)) c.in-Differ.is c.count_shared.ensures)
 
-returns-4 : tie.Need-returns-4
-returns-4 c =
-    let m = c.before.before.before.before.before.before.before.before in
-    let d = m.before.before.before.before.before.before.before in
-    let e = c.before.before.before.before.before.before.both.given.1 in
-    let z = sized m e in
-    let n = start-one d in
-    let size : length d.args.first.now - c.before.before.before.before.before.before.both.given.0.0.length + (length d.args.second.now - d.args.one.start) ≡ length (written (joined_bundle (level_at FIRST) d.args.first.now d.args.second.now)) = omega (arith, n, z.bytes) in
-    ap (λ i. plan.Fits (record { start = i; size = record { length = length d.args.first.now - c.before.before.before.before.before.before.both.given.0.0.length + (length d.args.second.now - d.args.one.start); groups = d.args.one.number - c.before.before.before.before.before.before.both.given.0.0.number + d.args.two.number } })) n
-    ∙ by_fit d.args.first.now d.args.second.now d.args.room d.requires.0.0 d.requires.0.1 (alike m.before) (shared m e).agree (omega (arith, c.before.before.before.if2.false, size)) size (omega (arith, number-one d, number-two d, z.groups))
+returns-else-room-length : tie.Need-returns-else-room-length
+returns-else-room-length c =
+    let e = c.in-Shared.is in
+    let z = sized c.before.before.before.before.before.before e in
+    let n = start-one c.before.before.before.before.before.before.before.before.before.before.before in
+    let size : length c.args.first.now - c.in-Shared.both.length + (length c.args.second.now - c.args.one.start) ≡ length (written (joined_bundle (level_at FIRST) c.args.first.now c.args.second.now)) = omega (arith, n, z.bytes) in
+    ap (λ i. plan.Fits (record { start = i; size = record { length = length c.args.first.now - c.in-Shared.both.length + (length c.args.second.now - c.args.one.start); groups = c.args.one.number - c.in-Shared.both.number + c.args.two.number } })) n
+    ∙ by_fit c.args.first.now c.args.second.now c.args.room c.requires.0.0 c.requires.0.1 (alike c.before.before.before.before.before.before.before) (shared c.before.before.before.before.before.before e).agree (omega (arith, c.if-room-length.false, size)) size (omega (arith, number-one c.before.before.before.before.before.before.before.before.before.before.before, number-two c.before.before.before.before.before.before.before.before.before.before.before, z.groups))
 
-pub compare-spec : {M : Type 1} → statement M
-compare-spec =
+pub compare_spec : {M : Type 1} → statement M
+compare_spec =
     tie.close
     (tie.spec
-    slice-aggregate-same
-    slice-aggregate-same-2
+    slice_bounds-same-end
+    slice_bounds-same-end-2
     same-requires
-    returns
-    count-shared-requires
-    enum_told
-    enum-known-both
-    sub-length
-    sub-length-2
-    add-length
-    returns-2
-    sub-groups
-    add-groups
-    returns-3
-    returns-4)
+    returns-then-not-same
+    count_shared-requires
+    enum_told-1
+    enum_known-both
+    overflow_sub-length
+    overflow_sub-length-in-Shared
+    overflow_add-length
+    returns-then-room-length
+    overflow_sub-groups
+    overflow_add-groups
+    returns-in-Differ
+    returns-else-room-length)

@@ -16,239 +16,213 @@ use borrow.Author.Tests.{not-false, not-true}
 use Rattle.joining.proofs.count_shared.Statement.{statement}
 use Rattle.joining.proofs.count_shared.Tie as tie
 
-abbrev invariant-loop : tie.invariant-loop
-invariant-loop first second start key i₀ j₀ number₀ length₀ i j number length = (h : Sized (level_at FIRST) key) × Going key h first second (groups_of (level_at FIRST) first) (groups_of (level_at FIRST) second) i j number length × (list.length (groups_bytes (groups_of (level_at FIRST) first)) ≤ list.length first)
+abbrev invariant-loop-i : tie.invariant-loop-i
+invariant-loop-i first second start key i₀ j₀ number₀ length₀ i j number length = (h : Sized (level_at FIRST) key) × Going key h first second (groups_of (level_at FIRST) first) (groups_of (level_at FIRST) second) i j number length × (list.length (groups_bytes (groups_of (level_at FIRST) first)) ≤ list.length first)
 
-abbrev decreases-loop : tie.decreases-loop
-decreases-loop first second start key i₀ j₀ number₀ length₀ i j number length = (list.length first - i) + (list.length second - j)
+abbrev decreases-loop-i : tie.decreases-loop-i
+decreases-loop-i first second start key i₀ j₀ number₀ length₀ i j number length = (list.length first - i) + (list.length second - j)
 
-key-at-requires : tie.Need-key-at-requires invariant-loop decreases-loop
-key-at-requires c κs = search rules
+key_at-key-requires : tie.Need-key_at-key-requires invariant-loop-i decreases-loop-i
+key_at-key-requires c κs = search rules
 
 -- a group is left in both bundles
-view : (e : tie.Else2 invariant-loop decreases-loop) →
-    let L = e.before.before in
-    let a = L.before.before.before.before.args in
-    Seen L.before.key-at.result L.loop.invariant.0 a.first.now a.second.now (groups_of (level_at FIRST) a.first.now) (groups_of (level_at FIRST) a.second.now) L.loop.i L.loop.j L.loop.number L.loop.length
+view : (e : tie.Else-second-j invariant-loop-i decreases-loop-i) →
+    let a = e.args in
+    Seen e.key_at-key.result e.loop-i.invariant.0 a.first.now a.second.now (groups_of (level_at FIRST) a.first.now) (groups_of (level_at FIRST) a.second.now) e.loop-i.i e.loop-i.j e.loop-i.number e.loop-i.length
 view e =
-    let L = e.before.before in
-    let a = L.before.before.before.before.args in
-    seen L.before.key-at.result L.loop.invariant.0 a.first.now a.second.now (groups_of (level_at FIRST) a.first.now) (groups_of (level_at FIRST) a.second.now) L.loop.invariant.1 e.before.if1.false e.if2.false
+    let a = e.args in
+    seen e.key_at-key.result e.loop-i.invariant.0 a.first.now a.second.now (groups_of (level_at FIRST) a.first.now) (groups_of (level_at FIRST) a.second.now) e.loop-i.invariant.1 e.if-first-i.false e.if-second-j.false
 
 -- the group at each cursor
-left : (e : tie.Else2 invariant-loop decreases-loop) → let L = e.before.before in let a = L.before.before.before.before.args in First L.before.key-at.result L.loop.invariant.0 a.first.now L.loop.i (view e).x (view e).xs
-left e = let L = e.before.before in let a = L.before.before.before.before.args in here L.before.key-at.result L.loop.invariant.0 a.first.now a.second.now (groups_of (level_at FIRST) a.first.now) (groups_of (level_at FIRST) a.second.now) (view e)
+left : (e : tie.Else-second-j invariant-loop-i decreases-loop-i) → let a = e.args in First e.key_at-key.result e.loop-i.invariant.0 a.first.now e.loop-i.i (view e).x (view e).xs
+left e = let a = e.args in here e.key_at-key.result e.loop-i.invariant.0 a.first.now a.second.now (groups_of (level_at FIRST) a.first.now) (groups_of (level_at FIRST) a.second.now) (view e)
 
-right : (e : tie.Else2 invariant-loop decreases-loop) → let L = e.before.before in let a = L.before.before.before.before.args in First L.before.key-at.result L.loop.invariant.0 a.second.now L.loop.j (view e).y (view e).ys
-right e = let L = e.before.before in let a = L.before.before.before.before.args in there L.before.key-at.result L.loop.invariant.0 a.first.now a.second.now (groups_of (level_at FIRST) a.first.now) (groups_of (level_at FIRST) a.second.now) (view e)
+right : (e : tie.Else-second-j invariant-loop-i decreases-loop-i) → let a = e.args in First e.key_at-key.result e.loop-i.invariant.0 a.second.now e.loop-i.j (view e).y (view e).ys
+right e = let a = e.args in there e.key_at-key.result e.loop-i.invariant.0 a.first.now a.second.now (groups_of (level_at FIRST) a.first.now) (groups_of (level_at FIRST) a.second.now) (view e)
 
-loop-holds : tie.Need-loop-init invariant-loop decreases-loop
-loop-holds c =
-    let a = c.before.before.before.args in
-    let k = c.before in
-    let w = begun a.first.now a.second.now a.start (λ i. omega (arith, k.before.shared-slice-known.given i)) (λ i. omega (arith, k.shared-slice-known2.given i)) c.before.before.before.requires c.key-at.ensures in
-    (w.sized, going_start c.key-at.result w.sized a.first.now a.second.now (groups_of (level_at FIRST) a.first.now) (groups_of (level_at FIRST) a.second.now) w.one w.two, at_size c.key-at.result w.sized a.first.now a.start (groups_of (level_at FIRST) a.first.now) w.one)
+loop-i-init : tie.Need-loop-i-init invariant-loop-i decreases-loop-i
+loop-i-init c =
+    let a = c.args in
+    let w = begun a.first.now a.second.now a.start (λ i. omega (arith, c.shared_slice_known-1.given i)) (λ i. omega (arith, c.shared_slice_known-2-1.given i)) c.requires c.key_at-key.ensures in
+    (w.sized, going_start c.key_at-key.result w.sized a.first.now a.second.now (groups_of (level_at FIRST) a.first.now) (groups_of (level_at FIRST) a.second.now) w.one w.two, at_size c.key_at-key.result w.sized a.first.now a.start (groups_of (level_at FIRST) a.first.now) w.one)
 
-returns : tie.Need-returns invariant-loop decreases-loop
-returns c =
-    let L = c.before in
-    let a = L.before.before.before.before.args in
-    end-first L.before.key-at.result L.loop.invariant.0 a.first.now a.second.now (groups_of (level_at FIRST) a.first.now) (groups_of (level_at FIRST) a.second.now) L.loop.invariant.1 c.if1.true
+returns-then-first-i : tie.Need-returns-then-first-i invariant-loop-i decreases-loop-i
+returns-then-first-i c =
+    let a = c.args in
+    end-first c.key_at-key.result c.loop-i.invariant.0 a.first.now a.second.now (groups_of (level_at FIRST) a.first.now) (groups_of (level_at FIRST) a.second.now) c.loop-i.invariant.1 c.if-first-i.true
 
-returns-2 : tie.Need-returns-2 invariant-loop decreases-loop
-returns-2 c =
-    let L = c.before.before in
-    let a = L.before.before.before.before.args in
-    end-second L.before.key-at.result L.loop.invariant.0 a.first.now a.second.now (groups_of (level_at FIRST) a.first.now) (groups_of (level_at FIRST) a.second.now) L.loop.invariant.1 c.if2.true
+returns-then-second-j : tie.Need-returns-then-second-j invariant-loop-i decreases-loop-i
+returns-then-second-j c =
+    let a = c.args in
+    end-second c.key_at-key.result c.loop-i.invariant.0 a.first.now a.second.now (groups_of (level_at FIRST) a.first.now) (groups_of (level_at FIRST) a.second.now) c.loop-i.invariant.1 c.if-second-j.true
 
-serial-at-requires : tie.Need-serial-at-requires invariant-loop decreases-loop
-serial-at-requires c κs = (left c).ranges
+serial_at-a-requires : tie.Need-serial_at-a-requires invariant-loop-i decreases-loop-i
+serial_at-a-requires c κs = (left c).fits
 
-serial-at-requires-2 : tie.Need-serial-at-requires-2 invariant-loop decreases-loop
-serial-at-requires-2 c κs = (right c.before).fits
+serial_at-b-requires : tie.Need-serial_at-b-requires invariant-loop-i decreases-loop-i
+serial_at-b-requires c κs = (right c.before).fits
 
 -- the serials at the cursors
-serials : (k : tie.After-serial-at2 invariant-loop decreases-loop) → let e = k.before.before in let L = e.before.before in let a = L.before.before.before.before.args in let key = L.before.key-at.result in
-    (k.before.serial-at.result ≡ (group_at (level_at FIRST) key a.first.now L.loop.i).serial) × (k.serial-at2.result ≡ (group_at (level_at FIRST) key a.second.now L.loop.j).serial)
-serials k = let L = k.before.before.before.before in (k.before.serial-at.ensures L.before.key-at.result, k.serial-at2.ensures L.before.key-at.result)
+serials : (k : tie.After-serial_at-b invariant-loop-i decreases-loop-i) → let a = k.args in let key = k.key_at-key.result in
+    (k.serial_at-a.result ≡ (group_at (level_at FIRST) key a.first.now k.loop-i.i).serial) × (k.serial_at-b.result ≡ (group_at (level_at FIRST) key a.second.now k.loop-i.j).serial)
+serials k = (k.serial_at-a.ensures k.key_at-key.result, k.serial_at-b.ensures k.key_at-key.result)
 
-group-end-requires : tie.Need-group-end-requires invariant-loop decreases-loop
-group-end-requires c κs = let e = c.before.before.before in (e.before.before.loop.invariant.0, (left e).within)
+group_end-i-requires : tie.Need-group_end-i-requires invariant-loop-i decreases-loop-i
+group_end-i-requires c κs = (c.loop-i.invariant.0, (left c.before.before.before).within)
 
-loop-less : tie.Need-loop-smaller invariant-loop decreases-loop
-loop-less c = let w = left c.before.before.before.before in omega (arith, c.group-end.ensures, w.far, w.within)
+loop-i-smaller-then-a-b : tie.Need-loop-i-smaller-then-a-b invariant-loop-i decreases-loop-i
+loop-i-smaller-then-a-b c = let w = left c.before.before.before.before in omega (arith, c.group_end-i.ensures, w.far, w.within)
 
-loop-again : tie.Need-loop-preserved invariant-loop decreases-loop
-loop-again c =
-    let k = c.before.before in
-    let e = k.before.before in
-    let L = e.before.before in
-    let a = L.before.before.before.before.args in
-    let key = L.before.key-at.result in
-    let s = serials k in (
-      L.loop.invariant.0,
-      subst (λ p. Going key L.loop.invariant.0 a.first.now a.second.now (groups_of (level_at FIRST) a.first.now) (groups_of (level_at FIRST) a.second.now) p L.loop.j L.loop.number L.loop.length) (sym c.group-end.ensures)
-          (go-first key L.loop.invariant.0 a.first.now a.second.now (groups_of (level_at FIRST) a.first.now) (groups_of (level_at FIRST) a.second.now) (view e) (omega (arith, s, c.before.if3.true))),
-      L.loop.invariant.2,
+loop-i-preserved-then-a-b : tie.Need-loop-i-preserved-then-a-b invariant-loop-i decreases-loop-i
+loop-i-preserved-then-a-b c =
+    let a = c.args in
+    let key = c.key_at-key.result in
+    let s = serials c.before.before in (
+      c.loop-i.invariant.0,
+      subst (λ p. Going key c.loop-i.invariant.0 a.first.now a.second.now (groups_of (level_at FIRST) a.first.now) (groups_of (level_at FIRST) a.second.now) p c.loop-i.j c.loop-i.number c.loop-i.length) (sym c.group_end-i.ensures)
+          (go-first key c.loop-i.invariant.0 a.first.now a.second.now (groups_of (level_at FIRST) a.first.now) (groups_of (level_at FIRST) a.second.now) (view c.before.before.before.before) (omega (arith, s, c.if-a-b.true))),
+      c.loop-i.invariant.2,
     )
 
-group-end-requires-2 : tie.Need-group-end-requires-2 invariant-loop decreases-loop
-group-end-requires-2 c κs = let e = c.before.before.before.before in (e.before.before.loop.invariant.0, (right e).within)
+group_end-j-requires : tie.Need-group_end-j-requires invariant-loop-i decreases-loop-i
+group_end-j-requires c κs = (c.loop-i.invariant.0, (right c.before.before.before.before).within)
 
-loop-less-2 : tie.Need-loop-smaller-2 invariant-loop decreases-loop
-loop-less-2 c = let w = right c.before.before.before.before.before in omega (arith, c.group-end2.ensures, w.far, w.within)
+loop-i-smaller-then-b-a : tie.Need-loop-i-smaller-then-b-a invariant-loop-i decreases-loop-i
+loop-i-smaller-then-b-a c = let w = right c.before.before.before.before.before in omega (arith, c.group_end-j.ensures, w.far, w.within)
 
-loop-again-2 : tie.Need-loop-preserved-2 invariant-loop decreases-loop
-loop-again-2 c =
-    let k = c.before.before.before in
-    let e = k.before.before in
-    let L = e.before.before in
-    let a = L.before.before.before.before.args in
-    let key = L.before.key-at.result in
-    let s = serials k in (
-      L.loop.invariant.0,
-      subst (λ q. Going key L.loop.invariant.0 a.first.now a.second.now (groups_of (level_at FIRST) a.first.now) (groups_of (level_at FIRST) a.second.now) L.loop.i q L.loop.number L.loop.length) (sym c.group-end2.ensures)
-          (go-second key L.loop.invariant.0 a.first.now a.second.now (groups_of (level_at FIRST) a.first.now) (groups_of (level_at FIRST) a.second.now) (view e) (omega (arith, s, c.before.if4.true))),
-      L.loop.invariant.2,
+loop-i-preserved-then-b-a : tie.Need-loop-i-preserved-then-b-a invariant-loop-i decreases-loop-i
+loop-i-preserved-then-b-a c =
+    let a = c.args in
+    let key = c.key_at-key.result in
+    let s = serials c.before.before.before in (
+      c.loop-i.invariant.0,
+      subst (λ q. Going key c.loop-i.invariant.0 a.first.now a.second.now (groups_of (level_at FIRST) a.first.now) (groups_of (level_at FIRST) a.second.now) c.loop-i.i q c.loop-i.number c.loop-i.length) (sym c.group_end-j.ensures)
+          (go-second key c.loop-i.invariant.0 a.first.now a.second.now (groups_of (level_at FIRST) a.first.now) (groups_of (level_at FIRST) a.second.now) (view c.before.before.before.before.before) (omega (arith, s, c.if-b-a.true))),
+      c.loop-i.invariant.2,
     )
 
-group-end-requires-3 : tie.Need-group-end-requires-3 invariant-loop decreases-loop
-group-end-requires-3 c κs = let e = c.before.before.before.before in (e.before.before.loop.invariant.0, (left e).within)
+group_end-p-requires : tie.Need-group_end-p-requires invariant-loop-i decreases-loop-i
+group_end-p-requires c κs = (c.loop-i.invariant.0, (left c.before.before.before.before).within)
 
-group-end-requires-4 : tie.Need-group-end-requires-4 invariant-loop decreases-loop
-group-end-requires-4 c κs = let e = c.before.before.before.before.before in (e.before.before.loop.invariant.0, (right e).within)
+group_end-q-requires : tie.Need-group_end-q-requires invariant-loop-i decreases-loop-i
+group_end-q-requires c κs = (c.loop-i.invariant.0, (right c.before.before.before.before.before).within)
 
 -- where both groups end
-ends : (c : tie.After-group-end4 invariant-loop decreases-loop) →
-    let e = c.before.before.before.before.before.before in
-    let L = e.before.before in
-    let a = L.before.before.before.before.args in
-    (L.loop.i < c.before.group-end3.result) × (c.before.group-end3.result ≤ list.length a.first.now) × (L.loop.j < c.group-end4.result) × (c.group-end4.result ≤ list.length a.second.now)
+ends : (c : tie.After-group_end-q invariant-loop-i decreases-loop-i) →
+    let a = c.args in
+    (c.loop-i.i < c.group_end-p.result) × (c.group_end-p.result ≤ list.length a.first.now) × (c.loop-i.j < c.group_end-q.result) × (c.group_end-q.result ≤ list.length a.second.now)
 ends c =
-    let e = c.before.before.before.before.before.before in
-    let p = c.before.group-end3.ensures in
-    let q = c.group-end4.ensures in
-    (omega (arith, p, (left e).far), omega (arith, p, (left e).within), omega (arith, q, (right e).far), omega (arith, q, (right e).within))
+    let p = c.group_end-p.ensures in
+    let q = c.group_end-q.ensures in
+    (omega (arith, p, (left c.before.before.before.before.before.before).far), omega (arith, p, (left c.before.before.before.before.before.before).within), omega (arith, q, (right c.before.before.before.before.before.before).far), omega (arith, q, (right c.before.before.before.before.before.before).within))
 
-sub_same : tie.Need-overflow-sub-same invariant-loop decreases-loop
-sub_same c = omega (arith, ends c)
+slice_bounds-same-count : tie.Need-slice_bounds-same-count invariant-loop-i decreases-loop-i
+slice_bounds-same-count c = omega (arith, ends c)
 
-part-same-start : tie.Need-slice-bounds-same-start invariant-loop decreases-loop
-part-same-start c = omega (arith, ends c)
+slice_bounds-same-start : tie.Need-slice_bounds-same-start invariant-loop-i decreases-loop-i
+slice_bounds-same-start c = omega (arith, ends c)
 
-part-same-end : tie.Need-slice-bounds-same-end invariant-loop decreases-loop
-part-same-end c = omega (arith, ends c)
+slice_bounds-same-end : tie.Need-slice_bounds-same-end invariant-loop-i decreases-loop-i
+slice_bounds-same-end c = omega (arith, ends c)
 
-sub-same-2 : tie.Need-overflow-sub-same-2 invariant-loop decreases-loop
-sub-same-2 c = omega (arith, ends c.before)
+slice_bounds-same-count-else-b-a : tie.Need-slice_bounds-same-count-else-b-a invariant-loop-i decreases-loop-i
+slice_bounds-same-count-else-b-a c = omega (arith, ends c.before)
 
-part-same-start-2 : tie.Need-slice-bounds-same-start-2 invariant-loop decreases-loop
-part-same-start-2 c = omega (arith, ends c.before)
+slice_bounds-same-start-else-b-a : tie.Need-slice_bounds-same-start-else-b-a invariant-loop-i decreases-loop-i
+slice_bounds-same-start-else-b-a c = omega (arith, ends c.before)
 
-part-same-end-2 : tie.Need-slice-bounds-same-end-2 invariant-loop decreases-loop
-part-same-end-2 c = omega (arith, ends c.before)
+slice_bounds-same-end-else-b-a : tie.Need-slice_bounds-same-end-else-b-a invariant-loop-i decreases-loop-i
+slice_bounds-same-end-else-b-a c = omega (arith, ends c.before)
 
-same-requires : tie.Need-same-requires invariant-loop decreases-loop
+same-requires : tie.Need-same-requires invariant-loop-i decreases-loop-i
 same-requires c κs = search rules
 
 -- they have one serial
-equal : (c : tie.After-group-end4 invariant-loop decreases-loop) →
-    let L = c.before.before.before.before.before.before.before.before in
-    let a = L.before.before.before.before.args in
-    let key = L.before.key-at.result in
-    (group_at (level_at FIRST) key a.first.now L.loop.i).serial ≡ (group_at (level_at FIRST) key a.second.now L.loop.j).serial
-equal c = omega (arith, serials c.before.before.before.before, c.before.before.before.if3.false, c.before.before.if4.false)
+equal : (c : tie.After-group_end-q invariant-loop-i decreases-loop-i) →
+    let a = c.args in
+    let key = c.key_at-key.result in
+    (group_at (level_at FIRST) key a.first.now c.loop-i.i).serial ≡ (group_at (level_at FIRST) key a.second.now c.loop-i.j).serial
+equal c = omega (arith, serials c.before.before.before.before, c.if-a-b.false, c.if-b-a.false)
 
 -- whether they are the same
-compared : (c : tie.After-same invariant-loop decreases-loop) →
-    let L = c.before.before.before.before.before.before.before.before.before.before.before in
-    let a = L.before.before.before.before.args in
-    let key = L.before.key-at.result in
-    c.same.result ≡ same (part L.loop.i (group_end (level_at FIRST) key a.first.now L.loop.i - L.loop.i) a.first.now) (part L.loop.j (group_end (level_at FIRST) key a.second.now L.loop.j - L.loop.j) a.second.now)
+compared : (c : tie.After-same invariant-loop-i decreases-loop-i) →
+    let a = c.args in
+    let key = c.key_at-key.result in
+    c.same.result ≡ same (part c.loop-i.i (group_end (level_at FIRST) key a.first.now c.loop-i.i - c.loop-i.i) a.first.now) (part c.loop-i.j (group_end (level_at FIRST) key a.second.now c.loop-i.j - c.loop-i.j) a.second.now)
 compared c =
-    let k = c.before.before.before in
-    let L = k.before.before.before.before.before.before.before.before in
-    let a = L.before.before.before.before.args in
-    c.same.ensures ∙ ap₂ (λ (p q : ℕ). same (part L.loop.i (p - L.loop.i) a.first.now) (part L.loop.j (q - L.loop.j) a.second.now)) k.before.group-end3.ensures k.group-end4.ensures
+    let a = c.args in
+    c.same.ensures ∙ ap₂ (λ (p q : ℕ). same (part c.loop-i.i (p - c.loop-i.i) a.first.now) (part c.loop-i.j (q - c.loop-i.j) a.second.now)) c.group_end-p.ensures c.group_end-q.ensures
 
-returns-3 : tie.Need-returns-3 invariant-loop decreases-loop
-returns-3 c =
-    let k = c.before.before.before.before in
-    let e = k.before.before.before.before.before.before in
-    let L = e.before.before in
-    let a = L.before.before.before.before.args in
-    found-other L.before.key-at.result L.loop.invariant.0 a.first.now a.second.now (groups_of (level_at FIRST) a.first.now) (groups_of (level_at FIRST) a.second.now) (view e) (equal k) (sym (compared c.before) ∙ not-true _ c.if5.true)
+returns-then-not-same : tie.Need-returns-then-not-same invariant-loop-i decreases-loop-i
+returns-then-not-same c =
+    let a = c.args in
+    found-other c.key_at-key.result c.loop-i.invariant.0 a.first.now a.second.now (groups_of (level_at FIRST) a.first.now) (groups_of (level_at FIRST) a.second.now) (view c.before.before.before.before.before.before.before.before.before.before) (equal c.before.before.before.before) (sym (compared c.before) ∙ c.if-not-same.true)
 
 -- the number and the bytes so far are no more than the first bundle has
-few : (c : tie.Else5 invariant-loop decreases-loop) →
-    let L = c.before.before.before.before.before.before.before.before.before.before.before.before in
-    let a = L.before.before.before.before.args in
-    (L.loop.number ≤ list.length a.first.now) × (L.loop.length ≤ list.length a.first.now)
+few : (c : tie.Else-not-same invariant-loop-i decreases-loop-i) →
+    let a = c.args in
+    (c.loop-i.number ≤ list.length a.first.now) × (c.loop-i.length ≤ list.length a.first.now)
 few c =
-    let L = c.before.before.before.before.before.before.before.before.before.before.before.before in
-    let a = L.before.before.before.before.args in
+    let a = c.args in
     let X = groups_of (level_at FIRST) a.first.now in
-    let m = going_most L.before.key-at.result L.loop.invariant.0 a.first.now a.second.now X (groups_of (level_at FIRST) a.second.now) L.loop.invariant.1 in
-    (omega (arith, m, count-le X, L.loop.invariant.2), omega (arith, m, L.loop.invariant.2))
+    let m = going_most c.key_at-key.result c.loop-i.invariant.0 a.first.now a.second.now X (groups_of (level_at FIRST) a.second.now) c.loop-i.invariant.1 in
+    (omega (arith, m, count-le X, c.loop-i.invariant.2), omega (arith, m, c.loop-i.invariant.2))
 
-add-number : tie.Need-overflow-add-number invariant-loop decreases-loop
-add-number c = omega (arith, few c)
+overflow_add-number : tie.Need-overflow_add-number invariant-loop-i decreases-loop-i
+overflow_add-number c = omega (arith, few c)
 
-sub-length : tie.Need-overflow-sub-length invariant-loop decreases-loop
-sub-length c = omega (arith, ends c.before.before.before.before)
+overflow_sub-length : tie.Need-overflow_sub-length invariant-loop-i decreases-loop-i
+overflow_sub-length c = omega (arith, ends c.before.before.before.before)
 
-add-length : tie.Need-overflow-add-length invariant-loop decreases-loop
-add-length c = omega (arith, few c, ends c.before.before.before.before)
+overflow_add-length : tie.Need-overflow_add-length invariant-loop-i decreases-loop-i
+overflow_add-length c = omega (arith, few c, ends c.before.before.before.before)
 
-loop-less-3 : tie.Need-loop-smaller-3 invariant-loop decreases-loop
-loop-less-3 c = omega (arith, ends c.before.before.before.before)
+loop-i-smaller : tie.Need-loop-i-smaller invariant-loop-i decreases-loop-i
+loop-i-smaller c = omega (arith, ends c.before.before.before.before)
 
-loop-again-3 : tie.Need-loop-preserved-3 invariant-loop decreases-loop
-loop-again-3 c =
-    let k = c.before.before.before.before in
-    let e = k.before.before.before.before.before.before in
-    let L = e.before.before in
-    let a = L.before.before.before.before.args in
-    let key = L.before.key-at.result in
+loop-i-preserved : tie.Need-loop-i-preserved invariant-loop-i decreases-loop-i
+loop-i-preserved c =
+    let a = c.args in
+    let key = c.key_at-key.result in
     let X = groups_of (level_at FIRST) a.first.now in
     let Y = groups_of (level_at FIRST) a.second.now in
-    let next = go_both key L.loop.invariant.0 a.first.now a.second.now X Y (view e) (equal k) (sym (compared c.before) ∙ not-false _ c.if5.false) in (
-      L.loop.invariant.0,
-      subst (λ p. Going key L.loop.invariant.0 a.first.now a.second.now X Y p k.group-end4.result (L.loop.number + 1) (L.loop.length + (p - L.loop.i))) (sym k.before.group-end3.ensures)
-          (subst (λ q. Going key L.loop.invariant.0 a.first.now a.second.now X Y (group_end (level_at FIRST) key a.first.now L.loop.i) q (L.loop.number + 1) (L.loop.length + (group_end (level_at FIRST) key a.first.now L.loop.i - L.loop.i))) (sym k.group-end4.ensures) next),
-      L.loop.invariant.2,
+    let next = go_both key c.loop-i.invariant.0 a.first.now a.second.now X Y (view c.before.before.before.before.before.before.before.before.before.before) (equal c.before.before.before.before) (sym (compared c.before) ∙ c.if-not-same.false) in (
+      c.loop-i.invariant.0,
+      subst (λ p. Going key c.loop-i.invariant.0 a.first.now a.second.now X Y p c.group_end-q.result (c.loop-i.number + 1) (c.loop-i.length + (p - c.loop-i.i))) (sym c.group_end-p.ensures)
+          (subst (λ q. Going key c.loop-i.invariant.0 a.first.now a.second.now X Y (group_end (level_at FIRST) key a.first.now c.loop-i.i) q (c.loop-i.number + 1) (c.loop-i.length + (group_end (level_at FIRST) key a.first.now c.loop-i.i - c.loop-i.i))) (sym c.group_end-q.ensures) next),
+      c.loop-i.invariant.2,
     )
 
-pub count-shared-spec : {M : Type 1} → statement M
-count-shared-spec =
+pub count_shared_spec : {M : Type 1} → statement M
+count_shared_spec =
     tie.close
     (tie.spec
-    invariant-loop
-    decreases-loop
-    key-at-requires
-    loop-holds
-    returns
-    returns-2
-    serial-at-requires
-    serial-at-requires-2
-    group-end-requires
-    loop-less
-    loop-again
-    group-end-requires-2
-    loop-less-2
-    loop-again-2
-    group-end-requires-3
-    group-end-requires-4
-    sub_same
-    part-same-start
-    part-same-end
-    sub-same-2
-    part-same-start-2
-    part-same-end-2
+    invariant-loop-i
+    decreases-loop-i
+    key_at-key-requires
+    loop-i-init
+    returns-then-first-i
+    returns-then-second-j
+    serial_at-a-requires
+    serial_at-b-requires
+    group_end-i-requires
+    loop-i-smaller-then-a-b
+    loop-i-preserved-then-a-b
+    group_end-j-requires
+    loop-i-smaller-then-b-a
+    loop-i-preserved-then-b-a
+    group_end-p-requires
+    group_end-q-requires
+    slice_bounds-same-count
+    slice_bounds-same-start
+    slice_bounds-same-end
+    slice_bounds-same-count-else-b-a
+    slice_bounds-same-start-else-b-a
+    slice_bounds-same-end-else-b-a
     same-requires
-    returns-3
-    add-number
-    sub-length
-    add-length
-    loop-less-3
-    loop-again-3)
+    returns-then-not-same
+    overflow_add-number
+    overflow_sub-length
+    overflow_add-length
+    loop-i-smaller
+    loop-i-preserved)

@@ -7,24 +7,28 @@ use Rattle.joining.proofs.look_before_join.Tie as tie
 look-requires : tie.Need-look-requires
 look-requires c κs = search rules
 
-enum-known-refusal : tie.Need-enum-known-refusal
-enum-known-refusal c = search rules
+enum_known-refusal : tie.Need-enum_known-refusal
+enum_known-refusal c = search rules
 
-enum-known-plan : tie.Need-enum-known-plan
-enum-known-plan c = search rules
+enum_known-plan : tie.Need-enum_known-plan
+enum_known-plan c = search rules
 
-returns : tie.Need-returns
-returns c =
-    let d = c.before.before.before in
-    let a = d.before.before.before.args in
-    as_joined a.first.now a.second.now a.room (answer-refused a.first.now a.second.now a.room (sym d.look.ensures ∙ c.before.refusal.given.1))
+returns-in-Refused : tie.Need-returns-in-Refused
+returns-in-Refused c =
+    let a = c.args in
+    as_joined a.first.now a.second.now a.room (answer-refused a.first.now a.second.now a.room (sym c.look.ensures ∙ c.in-Refused.is))
 
-returns-2 : tie.Need-returns-2
-returns-2 c =
-    let d = c.before.before.before.before in
-    let a = d.before.before.before.args in
-    as_joined a.first.now a.second.now a.room (answer-fits a.first.now a.second.now a.room (sym d.look.ensures ∙ c.before.before.plan.given.1))
+returns-in-Fits : tie.Need-returns-in-Fits
+returns-in-Fits c =
+    let a = c.args in
+    as_joined a.first.now a.second.now a.room (answer-fits a.first.now a.second.now a.room (sym c.look.ensures ∙ c.in-Fits.is))
 
-pub look-before-join-spec : {M : Type 1} → statement M
-look-before-join-spec =
-    tie.close (tie.spec look-requires enum-known-refusal enum-known-plan returns returns-2)
+pub look_before_join_spec : {M : Type 1} → statement M
+look_before_join_spec =
+    tie.close
+    (tie.spec
+    look-requires
+    enum_known-refusal
+    enum_known-plan
+    returns-in-Refused
+    returns-in-Fits)

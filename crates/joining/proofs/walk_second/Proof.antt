@@ -23,91 +23,88 @@ use Rattle.joining.proofs.Equal.{same_true}
 use Rattle.joining.proofs.walk_second.Statement.{statement}
 use Rattle.joining.proofs.walk_second.Tie as tie
 
-bytes_one : (c : tie.After-shared-slice-known) → Bytes c.before.args.first.now
-bytes_one c i = omega (arith, c.shared-slice-known.given i)
+bytes_one : (c : tie.After-shared_slice_known-1) → Bytes c.args.first.now
+bytes_one c i = omega (arith, c.shared_slice_known-1.given i)
 
 walk-requires : tie.Need-walk-requires
 walk-requires c κs = search rules
 
-returns : tie.Need-returns
-returns c = search rules
+returns-then-second-start : tie.Need-returns-then-second-start
+returns-then-second-start c = search rules
 
-slice-aggregate-same : tie.Need-slice-aggregate-same
-slice-aggregate-same c = let d = c.before.before.before.before in sym (length-take-le d.args.start d.args.first.now (subst (λ i. i ≤ length d.args.first.now) (sym d.requires.1) (key-within d.args.first.now (bytes_one c.before.before.before) d.requires.0)))
+slice_bounds-same-end : tie.Need-slice_bounds-same-end
+slice_bounds-same-end c = sym (length-take-le c.args.start c.args.first.now (subst (λ i. i ≤ length c.args.first.now) (sym c.requires.1) (key-within c.args.first.now (bytes_one c.before.before) c.requires.0)))
 
-slice-aggregate-same-2 : tie.Need-slice-aggregate-same-2
-slice-aggregate-same-2 c = let d = c.before.before.before.before.before in sym (length-take-le d.args.start d.args.second.now (omega (arith, c.before.before.if1.false)))
+slice_bounds-same-end-2 : tie.Need-slice_bounds-same-end-2
+slice_bounds-same-end-2 c = sym (length-take-le c.args.start c.args.second.now (omega (arith, c.if-second-start.false)))
 
 same-requires : tie.Need-same-requires
 same-requires c κs = search rules
 
-walk-requires-2 : tie.Need-walk-requires-2
-walk-requires-2 c κs = search rules
+walk-requires-then-not-same : tie.Need-walk-requires-then-not-same
+walk-requires-then-not-same c κs = search rules
 
-returns-2 : tie.Need-returns-2
-returns-2 c = search rules
+returns-then-not-same : tie.Need-returns-then-not-same
+returns-then-not-same c = search rules
 
-byte-at-requires : tie.Need-byte-at-requires
-byte-at-requires c κs = search rules
+byte_at-requires : tie.Need-byte_at-requires
+byte_at-requires c κs = search rules
 
-cast-if3 : tie.Need-overflow-cast-if3
-cast-if3 c = search rules
+overflow_cast-t-11 : tie.Need-overflow_cast-t-11
+overflow_cast-t-11 c = search rules
 
-walk-requires-3 : tie.Need-walk-requires-3
-walk-requires-3 c κs = search rules
+walk-requires-then-byte_at : tie.Need-walk-requires-then-byte_at
+walk-requires-then-byte_at c κs = search rules
 
-returns-3 : tie.Need-returns-3
-returns-3 c = search rules
+returns-then-byte_at : tie.Need-returns-then-byte_at
+returns-then-byte_at c = search rules
 
-key-at-requires : tie.Need-key-at-requires
-key-at-requires c κs = search rules
+key_at-requires : tie.Need-key_at-requires
+key_at-requires c κs = search rules
 
 -- the key fields are those of the first, and no field 04 follows
-begins : (c : tie.After-key-at) → let a = c.before.before.before.before.before.before.before.before.before.before.args in take (key_end (level_at FIRST) a.first.now) a.second.now ≡ take (key_end (level_at FIRST) a.first.now) a.first.now
+begins : (c : tie.After-key_at) → let a = c.args in take (key_end (level_at FIRST) a.first.now) a.second.now ≡ take (key_end (level_at FIRST) a.first.now) a.first.now
 begins c =
-    let d = c.before.before.before.before.before.before.before.before.before.before in
-    subst (λ i. take i d.args.second.now ≡ take i d.args.first.now) d.requires.1
-    (sym (same_true (take d.args.start d.args.first.now) (take d.args.start d.args.second.now) (sym c.before.before.before.before.same.ensures ∙ not-false _ c.before.before.before.if2.false)))
+    subst (λ i. take i c.args.second.now ≡ take i c.args.first.now) c.requires.1
+    (sym (same_true (take c.args.start c.args.first.now) (take c.args.start c.args.second.now) (sym c.same.ensures ∙ c.if-not-same.false)))
 
-other : (c : tie.After-key-at) → let a = c.before.before.before.before.before.before.before.before.before.before.args in get_or a.second.now (key_end (level_at FIRST) a.first.now) 0 ≡ 0x04 → ⊥
+other : (c : tie.After-key_at) → let a = c.args in get_or a.second.now (key_end (level_at FIRST) a.first.now) 0 ≡ 0x04 → ⊥
 other c e =
-    let d = c.before.before.before.before.before.before.before.before.before.before in
-    c.before.if3.false (c.before.before.byte_at.ensures.0 ∙ ap (λ i. get_or d.args.second.now i 0) d.requires.1 ∙ e)
+    c.if-byte_at.false (c.byte_at.ensures.0 ∙ ap (λ i. get_or c.args.second.now i 0) c.requires.1 ∙ e)
 
-done : (c : tie.After-key-at) → first_of (key_tests (level_at FIRST) c.before.before.before.before.before.before.before.before.before.before.args.second.now) ≡ Done
-done c = let d = c.before.before.before.before.before.before.before.before.before.before in again-done d.args.first.now (bytes_one c.before.before.before.before.before.before.before.before.before) d.requires.0 d.args.second.now (begins c) (other c)
+done : (c : tie.After-key_at) → first_of (key_tests (level_at FIRST) c.args.second.now) ≡ Done
+done c = again-done c.args.first.now (bytes_one c.before.before.before.before.before.before.before) c.requires.0 c.args.second.now (begins c) (other c)
 
-end : (c : tie.After-key-at) → let d = c.before.before.before.before.before.before.before.before.before.before in d.args.start ≡ key_end (level_at FIRST) d.args.second.now
-end c = let d = c.before.before.before.before.before.before.before.before.before.before in d.requires.1 ∙ sym (again-end d.args.first.now (bytes_one c.before.before.before.before.before.before.before.before.before) d.requires.0 d.args.second.now (begins c) (other c))
+end : (c : tie.After-key_at) → c.args.start ≡ key_end (level_at FIRST) c.args.second.now
+end c = c.requires.1 ∙ sym (again-end c.args.first.now (bytes_one c.before.before.before.before.before.before.before) c.requires.0 c.args.second.now (begins c) (other c))
 
-read-groups-requires : tie.Need-read-groups-requires
-read-groups-requires c κs = subst (Sized (level_at FIRST)) (sym c.key-at.ensures) (key-sized (level_at FIRST) c.before.before.before.before.before.before.before.before.before.before.args.second.now (done c))
+read_groups-requires : tie.Need-read_groups-requires
+read_groups-requires c κs = subst (Sized (level_at FIRST)) (sym c.key_at.ensures) (key-sized (level_at FIRST) c.args.second.now (done c))
 
-returns-4 : tie.Need-returns-4
-returns-4 c =
-    let k = c.before in
+returns : tie.Need-returns
+returns c =
     let l = level_at FIRST in
-    let t = k.before.before.before.before.before.before.before.before.before.before.args.second.now in
+    let t = c.args.second.now in
     let all : (key : Key) (at : ℕ) → List ℕ = λ key at. starts_from l key t (suc (length t)) at in
-    c.read-groups.ensures
-    ∙ ap₂ (λ (key : Key) (at : ℕ). found (first_of (groups_tests l key t 0 (all key at))) at (length (all key at))) k.key-at.ensures (end k)
-    ∙ ap (λ a. found a (key_end l t) (length (starts l t))) (sym (after-done (key_tests l t) (groups_tests l (key_of t) t 0 (starts l t)) (done k)))
+    c.read_groups.ensures
+    ∙ ap₂ (λ (key : Key) (at : ℕ). found (first_of (groups_tests l key t 0 (all key at))) at (length (all key at))) c.key_at.ensures (end c.before)
+    ∙ ap (λ a. found a (key_end l t) (length (starts l t))) (sym (after-done (key_tests l t) (groups_tests l (key_of t) t 0 (starts l t)) (done c.before)))
 
-pub walk-second-spec : {M : Type 1} → statement M
-walk-second-spec =
+pub walk_second_spec : {M : Type 1} → statement M
+walk_second_spec =
     tie.close
     (tie.spec
     walk-requires
-    returns
-    slice-aggregate-same
-    slice-aggregate-same-2
+    returns-then-second-start
+    slice_bounds-same-end
+    slice_bounds-same-end-2
     same-requires
-    walk-requires-2
-    returns-2
-    byte-at-requires
-    cast-if3
-    walk-requires-3
-    returns-3
-    key-at-requires
-    read-groups-requires
-    returns-4)
+    walk-requires-then-not-same
+    returns-then-not-same
+    byte_at-requires
+    overflow_cast-t-11
+    walk-requires-then-byte_at
+    returns-then-byte_at
+    key_at-requires
+    read_groups-requires
+    returns)

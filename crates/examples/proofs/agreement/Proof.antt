@@ -9,28 +9,34 @@ use Rattle.key.specs.Key.{key_slices}
 use Rattle.examples.proofs.agreement.Statement.{statement}
 use Rattle.examples.proofs.agreement.Tie as tie
 
-constraints-requires : tie.Need-constraints-requires
-constraints-requires c κs = search rules
+constraints-written-requires : tie.Need-constraints-written-requires
+constraints-written-requires c κs = search rules
 
-values-requires : tie.Need-values-requires
-values-requires c κs = search rules
+values-valued-requires : tie.Need-values-valued-requires
+values-valued-requires c κs = search rules
 
-same_length : tie.Need-same-length
-same_length c = search rules
+shape_of-t : tie.Need-shape_of-t
+shape_of-t c = search rules
 
-same-length-2 : tie.Need-same-length-2
-same-length-2 c = search rules
+shape_of-polynomials : tie.Need-shape_of-polynomials
+shape_of-polynomials c = search rules
 
-same-length-3 : tie.Need-same-length-3
-same-length-3 c = search rules
+shape_of-values : tie.Need-shape_of-values
+shape_of-values c = search rules
 
 returns : tie.Need-returns
 returns c written valued honest j l =
-    let a = c.before.before.before.before.before.before.before.before.before.before.before.before.before.before.before.before.before.before.before.before.before.before.before.args in
-    ap (λ (s : List ℕ). element_at (level_at FIRST) s j) (values-done (level_at FIRST) a.key (key_slices a.h.now a.x.now a.y.now) _ a.q.now a.delta.now a.values.now c.before.before.values.ensures.0 valued)
-    ∙ (c.before.before.before.before.before.before.before.before.before.constraints.ensures.1.1 written).agrees.each a.q.now a.delta.now honest j l
+    let a = c.args in
+    ap (λ (s : List ℕ). element_at (level_at FIRST) s j) (values-done (level_at FIRST) a.key (key_slices a.h.now a.x.now a.y.now) _ a.q.now a.delta.now a.values.now c.values-valued.ensures.0 valued)
+    ∙ (c.constraints-written.ensures.1.1 written).agrees.each a.q.now a.delta.now honest j l
 
-pub agreement-spec : {M : Type 1} → statement M
-agreement-spec =
+pub agreement_spec : {M : Type 1} → statement M
+agreement_spec =
     tie.close
-    (tie.spec constraints-requires values-requires same_length same-length-2 same-length-3 returns)
+    (tie.spec
+    constraints-written-requires
+    values-valued-requires
+    shape_of-t
+    shape_of-polynomials
+    shape_of-values
+    returns)

@@ -5,24 +5,30 @@ use Rattle.examples.proofs.Accepted.{accepted}
 use Rattle.examples.proofs.completeness.Statement.{statement}
 use Rattle.examples.proofs.completeness.Tie as tie
 
-prove-requires : tie.Need-prove-requires
-prove-requires c κs = search rules
+prove-proved-requires : tie.Need-prove-proved-requires
+prove-proved-requires c κs = search rules
 
-verify-requires : tie.Need-verify-requires
-verify-requires c κs = search rules
+verify-judged-requires : tie.Need-verify-judged-requires
+verify-judged-requires c κs = search rules
 
-same_length : tie.Need-same-length
-same_length c = search rules
+shape_of-t : tie.Need-shape_of-t
+shape_of-t c = search rules
 
-same-length-2 : tie.Need-same-length-2
-same-length-2 c = search rules
+shape_of-a : tie.Need-shape_of-a
+shape_of-a c = search rules
 
 returns : tie.Need-returns
 returns c =
-    let a = c.before.before.before.before.before.before.before.before.before.before.before.before.before.before.before.before.before.before.before.before.before.before.before.before.args in
-    let p = c.before.before.before.before.before.before.before.prove.ensures in
-    accepted FIRST a.key (key_slices a.h.now a.x.now a.y.now) a.positions.now a.u.now a.v.now a.r.now a.s.now a.alpha.now a.t.now a.a.now a.q.now a.delta.now a.masks.now p.0 p.1.1 c.verify.ensures.0
+    let a = c.args in
+    let p = c.prove-proved.ensures in
+    accepted FIRST a.key (key_slices a.h.now a.x.now a.y.now) a.positions.now a.u.now a.v.now a.r.now a.s.now a.alpha.now a.t.now a.a.now a.q.now a.delta.now a.masks.now p.0 p.1.1 c.verify-judged.ensures.0
 
-pub completeness-spec : {M : Type 1} → statement M
-completeness-spec =
-    tie.close (tie.spec prove-requires verify-requires same_length same-length-2 returns)
+pub completeness_spec : {M : Type 1} → statement M
+completeness_spec =
+    tie.close
+    (tie.spec
+    prove-proved-requires
+    verify-judged-requires
+    shape_of-t
+    shape_of-a
+    returns)

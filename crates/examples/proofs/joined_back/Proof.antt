@@ -10,50 +10,50 @@ use Rattle.joining.proofs.Outcome.{size_same}
 use Rattle.examples.proofs.joined_back.Statement.{statement}
 use Rattle.examples.proofs.joined_back.Tie as tie
 
-join-bundles-requires : tie.Need-join-bundles-requires
-join-bundles-requires c κs = search rules
+join_bundles-requires : tie.Need-join_bundles-requires
+join_bundles-requires c κs = search rules
 
-enum-known-refusal : tie.Need-enum-known-refusal
-enum-known-refusal c = search rules
+enum_known-refusal : tie.Need-enum_known-refusal
+enum_known-refusal c = search rules
 
-enum-known-size : tie.Need-enum-known-size
-enum-known-size c = search rules
+enum_known-size : tie.Need-enum_known-size
+enum_known-size c = search rules
 
-slice-reshare-prefix-read-bundle : tie.Need-slice-reshare-prefix-read-bundle
-slice-reshare-prefix-read-bundle c = (c.before.before.before.before.before.join-bundles.ensures.1 c.before.size.given.0.0 c.before.size.given.1).fits
+slice_bounds-read_bundle-end : tie.Need-slice_bounds-read_bundle-end
+slice_bounds-read_bundle-end c = (c.join_bundles.ensures.1 c.in-Size.size c.in-Size.is).fits
 
-slice-aggregate-read-bundle : tie.Need-slice-aggregate-read-bundle
-slice-aggregate-read-bundle c = sym (length-take-le _ _ (c.before.before.before.before.before.before.join-bundles.ensures.1 c.before.before.size.given.0.0 c.before.before.size.given.1).fits)
+slice_bounds-read_bundle-end-in-Size : tie.Need-slice_bounds-read_bundle-end-in-Size
+slice_bounds-read_bundle-end-in-Size c = sym (length-take-le _ _ (c.join_bundles.ensures.1 c.in-Size.size c.in-Size.is).fits)
 
-read-bundle-requires : tie.Need-read-bundle-requires
-read-bundle-requires c κs = search rules
+read_bundle-requires : tie.Need-read_bundle-requires
+read_bundle-requires c κs = search rules
 
-same_length : tie.Need-same-length
-same_length c = search rules
+shape_of-out-in-Refused : tie.Need-shape_of-out-in-Refused
+shape_of-out-in-Refused c = search rules
 
-returns : tie.Need-returns
-returns c size e = let z : ◌≡◌ {A = ℕ} 0 1 = cc in absurd (omega arith)
+returns-in-Refused : tie.Need-returns-in-Refused
+returns-in-Refused c size e = let z : ◌≡◌ {A = ℕ} 0 1 = cc in absurd (omega arith)
 
-same-length-2 : tie.Need-same-length-2
-same-length-2 c = search rules
+shape_of-out-in-Size : tie.Need-shape_of-out-in-Size
+shape_of-out-in-Size c = search rules
 
-returns-2 : tie.Need-returns-2
-returns-2 c size e =
-    let w = c.before.before.before.before.before.before.before.join-bundles.ensures.1 c.before.before.before.size.given.0.0 c.before.before.before.size.given.1 in
-    let a = c.before.before.before.before.before.before.before.before.before.before.before.before.args in
-    c.read-bundle.ensures ∙ w.read ∙ ap (λ (z : Size). Fields (record { n = (key_of a.first.now).n; m = (key_of a.first.now).m; groups = z.groups })) (size_same e)
+returns-in-Size : tie.Need-returns-in-Size
+returns-in-Size c size e =
+    let w = c.join_bundles.ensures.1 c.in-Size.size c.in-Size.is in
+    let a = c.args in
+    c.read_bundle.ensures ∙ w.read ∙ ap (λ (z : Size). Fields (record { n = (key_of a.first.now).n; m = (key_of a.first.now).m; groups = z.groups })) (size_same e)
 
-pub joined-back-spec : {M : Type 1} → statement M
-joined-back-spec =
+pub joined_back_spec : {M : Type 1} → statement M
+joined_back_spec =
     tie.close
     (tie.spec
-    join-bundles-requires
-    enum-known-refusal
-    enum-known-size
-    slice-reshare-prefix-read-bundle
-    slice-aggregate-read-bundle
-    read-bundle-requires
-    same_length
-    returns
-    same-length-2
-    returns-2)
+    join_bundles-requires
+    enum_known-refusal
+    enum_known-size
+    slice_bounds-read_bundle-end
+    slice_bounds-read_bundle-end-in-Size
+    read_bundle-requires
+    shape_of-out-in-Refused
+    returns-in-Refused
+    shape_of-out-in-Size
+    returns-in-Size)

@@ -13,62 +13,59 @@ abbrev LARGEST : ℕ
 LARGEST = 18446744073709551615
 
 -- the bytes lent
-bytes_one : (c : tie.After-look-before-join) → Bytes c.before.before.before.before.args.first.now
-bytes_one c i = omega (arith, c.before.before.before.shared-slice-known.given i)
+bytes_one : (c : tie.After-look_before_join) → Bytes c.args.first.now
+bytes_one c i = omega (arith, c.shared_slice_known-1.given i)
 
-bytes-two : (c : tie.After-look-before-join) → Bytes c.before.before.before.before.args.second.now
-bytes-two c i = omega (arith, c.before.before.shared-slice-known2.given i)
+bytes-two : (c : tie.After-look_before_join) → Bytes c.args.second.now
+bytes-two c i = omega (arith, c.shared_slice_known-2-1.given i)
 
-look-before-join-requires : tie.Need-look-before-join-requires
-look-before-join-requires c κs = search rules
+look_before_join-requires : tie.Need-look_before_join-requires
+look_before_join-requires c κs = search rules
 
-enum-known-refusal : tie.Need-enum-known-refusal
-enum-known-refusal c = search rules
+enum_known-refusal : tie.Need-enum_known-refusal
+enum_known-refusal c = search rules
 
-enum-known-size : tie.Need-enum-known-size
-enum-known-size c = search rules
+enum_known-size : tie.Need-enum_known-size
+enum_known-size c = search rules
 
-returns : tie.Need-returns
-returns c =
-    let d = c.before.before.before.before in
-    let a = d.before.before.before.before.args in
-    look-short a.first.now a.second.now a.out.now LARGEST (sym c.before.before.size.given.1 ∙ d.look-before-join.ensures.0) c.if1.true
+returns-then-out-len : tie.Need-returns-then-out-len
+returns-then-out-len c =
+    let a = c.args in
+    look-short a.first.now a.second.now a.out.now LARGEST (sym c.in-Size.is ∙ c.look_before_join.ensures.0) c.if-out-len.true
 
-slice-relend-prefix-join-bundles : tie.Need-slice-relend-prefix-join-bundles
-slice-relend-prefix-join-bundles c = search rules
+slice_bounds-join_bundles-end : tie.Need-slice_bounds-join_bundles-end
+slice_bounds-join_bundles-end c = search rules
 
-slice-aggregate-join-bundles : tie.Need-slice-aggregate-join-bundles
-slice-aggregate-join-bundles c = sym (length-take-le _ _ c.before.if1.false)
+slice_bounds-join_bundles-end-in-Size : tie.Need-slice_bounds-join_bundles-end-in-Size
+slice_bounds-join_bundles-end-in-Size c = sym (length-take-le _ _ c.if-out-len.false)
 
-join-bundles-requires : tie.Need-join-bundles-requires
-join-bundles-requires c κs = search rules
+join_bundles-requires : tie.Need-join_bundles-requires
+join_bundles-requires c κs = search rules
 
-returns-2 : tie.Need-returns-2
-returns-2 c =
-    let d = c.before.before.before in
-    let a = d.before.before.before.before.args in
-    look-refused a.first.now a.second.now a.out.now LARGEST (bytes_one d) (bytes-two d) (omega arith) (sym c.before.refusal.given.1 ∙ d.look-before-join.ensures.0)
+returns-in-Refused : tie.Need-returns-in-Refused
+returns-in-Refused c =
+    let a = c.args in
+    look-refused a.first.now a.second.now a.out.now LARGEST (bytes_one c.before) (bytes-two c.before) (omega arith) (sym c.in-Refused.is ∙ c.look_before_join.ensures.0)
 
-same_length : tie.Need-same-length
-same_length c = search rules
+shape_of-out : tie.Need-shape_of-out
+shape_of-out c = search rules
 
-returns-3 : tie.Need-returns-3
-returns-3 c =
-    let d = c.before.before.before.before.before.before.before.before in
-    let a = d.before.before.before.before.args in
-    look_exact a.first.now a.second.now a.out.now LARGEST (sym c.before.before.before.before.before.before.size.given.1 ∙ d.look-before-join.ensures.0) c.before.before.before.before.if1.false c.before.before.join-bundles.ensures.0
+returns-else-out-len : tie.Need-returns-else-out-len
+returns-else-out-len c =
+    let a = c.args in
+    look_exact a.first.now a.second.now a.out.now LARGEST (sym c.in-Size.is ∙ c.look_before_join.ensures.0) c.if-out-len.false c.join_bundles.ensures.0
 
-pub joined-exactly-spec : {M : Type 1} → statement M
-joined-exactly-spec =
+pub joined_exactly_spec : {M : Type 1} → statement M
+joined_exactly_spec =
     tie.close
     (tie.spec
-    look-before-join-requires
-    enum-known-refusal
-    enum-known-size
-    returns
-    slice-relend-prefix-join-bundles
-    slice-aggregate-join-bundles
-    join-bundles-requires
-    returns-2
-    same_length
-    returns-3)
+    look_before_join-requires
+    enum_known-refusal
+    enum_known-size
+    returns-then-out-len
+    slice_bounds-join_bundles-end
+    slice_bounds-join_bundles-end-in-Size
+    join_bundles-requires
+    returns-in-Refused
+    shape_of-out
+    returns-else-out-len)

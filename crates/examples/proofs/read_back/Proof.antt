@@ -8,61 +8,61 @@ use borrow.Author.Rules.{rules}
 use Rattle.examples.proofs.read_back.Statement.{statement}
 use Rattle.examples.proofs.read_back.Tie as tie
 
-write-package-requires : tie.Need-write-package-requires
-write-package-requires c κs = search rules
+write_package-requires : tie.Need-write_package-requires
+write_package-requires c κs = search rules
 
-enum-known-refusal : tie.Need-enum-known-refusal
-enum-known-refusal c = search rules
+enum_known-refusal : tie.Need-enum_known-refusal
+enum_known-refusal c = search rules
 
-enum-known-len : tie.Need-enum-known-len
-enum-known-len c = search rules
+enum_known-len : tie.Need-enum_known-len
+enum_known-len c = search rules
 
-slice-reshare-prefix-read-package : tie.Need-slice-reshare-prefix-read-package
-slice-reshare-prefix-read-package c = (c.before.before.before.before.before.write-package.ensures.1.1 c.before.len.given.0.0 c.before.len.given.1).fits
+slice_bounds-read_package-end : tie.Need-slice_bounds-read_package-end
+slice_bounds-read_package-end c = (c.write_package.ensures.1.1 c.in-Length.len c.in-Length.is).fits
 
-slice-aggregate-read-package : tie.Need-slice-aggregate-read-package
-slice-aggregate-read-package c = sym (length-take-le _ _ (c.before.before.before.before.before.before.write-package.ensures.1.1 c.before.before.len.given.0.0 c.before.before.len.given.1).fits)
+slice_bounds-read_package-end-in-Length : tie.Need-slice_bounds-read_package-end-in-Length
+slice_bounds-read_package-end-in-Length c = sym (length-take-le _ _ (c.write_package.ensures.1.1 c.in-Length.len c.in-Length.is).fits)
 
-read-package-requires : tie.Need-read-package-requires
-read-package-requires c κs = search rules
+read_package-requires : tie.Need-read_package-requires
+read_package-requires c κs = search rules
 
-slice-reshare-prefix-field-part : tie.Need-slice-reshare-prefix-field-part
-slice-reshare-prefix-field-part c = (c.before.before.before.before.before.before.before.write-package.ensures.1.1 c.before.before.before.len.given.0.0 c.before.before.before.len.given.1).fits
+slice_bounds-field_part-end : tie.Need-slice_bounds-field_part-end
+slice_bounds-field_part-end c = (c.write_package.ensures.1.1 c.in-Length.len c.in-Length.is).fits
 
-slice-aggregate-field-part : tie.Need-slice-aggregate-field-part
-slice-aggregate-field-part c = sym (length-take-le _ _ (c.before.before.before.before.before.before.before.before.write-package.ensures.1.1 c.before.before.before.before.len.given.0.0 c.before.before.before.before.len.given.1).fits)
+slice_bounds-field_part-end-in-Length : tie.Need-slice_bounds-field_part-end-in-Length
+slice_bounds-field_part-end-in-Length c = sym (length-take-le _ _ (c.write_package.ensures.1.1 c.in-Length.len c.in-Length.is).fits)
 
-field-part-requires : tie.Need-field-part-requires
-field-part-requires c κs = search rules
+field_part-requires : tie.Need-field_part-requires
+field_part-requires c κs = search rules
 
-same_length : tie.Need-same-length
-same_length c = search rules
+shape_of-out-in-Refused : tie.Need-shape_of-out-in-Refused
+shape_of-out-in-Refused c = search rules
 
-returns : tie.Need-returns
-returns c k e = let z : ◌≡◌ {A = ℕ} 0 1 = cc in absurd (omega arith)
+returns-in-Refused : tie.Need-returns-in-Refused
+returns-in-Refused c k e = let z : ◌≡◌ {A = ℕ} 0 1 = cc in absurd (omega arith)
 
-same-length-2 : tie.Need-same-length-2
-same-length-2 c = search rules
+shape_of-out-in-Length : tie.Need-shape_of-out-in-Length
+shape_of-out-in-Length c = search rules
 
-returns-2 : tie.Need-returns-2
-returns-2 c =
-    let a = c.before.before.before.before.before.before.before.before.before.before.before.before.before.before.before.before.before.args in
-    carried a.key (key_slices a.h.now a.x.now a.y.now) a.serial a.t.now a.a.now a.tag _ c.before.before.before.before.before.len.given.0.0 (c.before.before.before.before.before.before.before.before.before.write-package.ensures.1.1 c.before.before.before.before.before.len.given.0.0 c.before.before.before.before.before.len.given.1) c.before.before.read-package.ensures c.field-part.ensures
+returns-in-Length : tie.Need-returns-in-Length
+returns-in-Length c =
+    let a = c.args in
+    carried a.key (key_slices a.h.now a.x.now a.y.now) a.serial a.t.now a.a.now a.tag _ c.in-Length.len (c.write_package.ensures.1.1 c.in-Length.len c.in-Length.is) c.read_package.ensures c.field_part.ensures
 
-pub read-back-spec : {M : Type 1} → statement M
-read-back-spec =
+pub read_back_spec : {M : Type 1} → statement M
+read_back_spec =
     tie.close
     (tie.spec
-    write-package-requires
-    enum-known-refusal
-    enum-known-len
-    slice-reshare-prefix-read-package
-    slice-aggregate-read-package
-    read-package-requires
-    slice-reshare-prefix-field-part
-    slice-aggregate-field-part
-    field-part-requires
-    same_length
-    returns
-    same-length-2
-    returns-2)
+    write_package-requires
+    enum_known-refusal
+    enum_known-len
+    slice_bounds-read_package-end
+    slice_bounds-read_package-end-in-Length
+    read_package-requires
+    slice_bounds-field_part-end
+    slice_bounds-field_part-end-in-Length
+    field_part-requires
+    shape_of-out-in-Refused
+    returns-in-Refused
+    shape_of-out-in-Length
+    returns-in-Length)

@@ -11,7 +11,12 @@ number-requires : tie.Need-number-requires
 number-requires c κs = search rules
 
 returns : tie.Need-returns
-returns c = c.number.ensures ∙ ap check_number c.before.check.ensures
+returns c = c.number.ensures ∙ ap check_number c.check.ensures
 
-pub perk-check-spec : {M : Type 1} → statement M
-perk-check-spec = tie.close (tie.spec check-requires number-requires returns)
+pub perk_check_spec : {M : Type 1} → statement M
+perk_check_spec =
+    tie.close
+    (tie.spec
+    check-requires
+    number-requires
+    returns)

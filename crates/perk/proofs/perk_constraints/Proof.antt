@@ -22,11 +22,11 @@ constraints-requires c κs = search rules
 number-requires : tie.Need-number-requires
 number-requires c κs = search rules
 
-same_length : tie.Need-same-length
-same_length c = search rules
+shape_of-t : tie.Need-shape_of-t
+shape_of-t c = search rules
 
-same-length-2 : tie.Need-same-length-2
-same-length-2 c = search rules
+shape_of-polynomials : tie.Need-shape_of-polynomials
+shape_of-polynomials c = search rules
 
 done : (l : Level) (key : Key) (lent : KeySlices) (positions u v t p : List ℕ) {r : Answer} {s : List ℕ × List ℕ} {k : ℕ} → (r, s) ≡ constraints_outcome l key lent positions u v t p → k ≡ number_of r → (k ≡ 0) ↔ (r ≡ Done)
 unfolding constraints_outcome
@@ -35,9 +35,15 @@ done l key lent positions u v t p e n =
 
 returns : tie.Need-returns
 returns c =
-    let e = c.before.before.before.before.before.constraints.ensures in
+    let e = c.constraints.ensures in
     (when_numbered e.0 c.number.ensures, (told-leans c.number.ensures e.1.0, λ z. e.1.1 ((done _ _ _ _ _ _ _ _ e.0 c.number.ensures).0 z)))
 
-pub perk-constraints-spec : {M : Type 1} → statement M
-perk-constraints-spec =
-    tie.close (tie.spec constraints-requires number-requires same_length same-length-2 returns)
+pub perk_constraints_spec : {M : Type 1} → statement M
+perk_constraints_spec =
+    tie.close
+    (tie.spec
+    constraints-requires
+    number-requires
+    shape_of-t
+    shape_of-polynomials
+    returns)

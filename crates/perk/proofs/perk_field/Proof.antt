@@ -4,11 +4,15 @@ use borrow.Author.Rules.{rules}
 use Rattle.perk.proofs.perk_field.Statement.{statement}
 use Rattle.perk.proofs.perk_field.Tie as tie
 
-field-part-requires : tie.Need-field-part-requires
-field-part-requires c κs = search rules
+field_part-part-requires : tie.Need-field_part-part-requires
+field_part-part-requires c κs = search rules
 
 returns : tie.Need-returns
-returns c = ap span_of c.field-part.ensures
+returns c = ap span_of c.field_part-part.ensures
 
-pub perk-field-spec : {M : Type 1} → statement M
-perk-field-spec = tie.close (tie.spec field-part-requires returns)
+pub perk_field_spec : {M : Type 1} → statement M
+perk_field_spec =
+    tie.close
+    (tie.spec
+    field_part-part-requires
+    returns)

@@ -9,11 +9,17 @@ product-requires c κs = search rules
 number-requires : tie.Need-number-requires
 number-requires c κs = search rules
 
-same_length : tie.Need-same-length
-same_length c = search rules
+shape_of-out : tie.Need-shape_of-out
+shape_of-out c = search rules
 
 returns : tie.Need-returns
-returns c = when_numbered c.before.before.before.product.ensures c.number.ensures
+returns c = when_numbered c.product.ensures c.number.ensures
 
-pub perk-product-spec : {M : Type 1} → statement M
-perk-product-spec = tie.close (tie.spec product-requires number-requires same_length returns)
+pub perk_product_spec : {M : Type 1} → statement M
+perk_product_spec =
+    tie.close
+    (tie.spec
+    product-requires
+    number-requires
+    shape_of-out
+    returns)

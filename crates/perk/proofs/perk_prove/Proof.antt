@@ -24,11 +24,11 @@ prove-requires c κs = search rules
 number-requires : tie.Need-number-requires
 number-requires c κs = search rules
 
-same_length : tie.Need-same-length
-same_length c = search rules
+shape_of-t : tie.Need-shape_of-t
+shape_of-t c = search rules
 
-same-length-2 : tie.Need-same-length-2
-same-length-2 c = search rules
+shape_of-a : tie.Need-shape_of-a
+shape_of-a c = search rules
 
 done : (l : Level) (key : Key) (lent : KeySlices) (positions u v r s α t a : List ℕ) {o : Answer} {left : List ℕ × List ℕ} {k : ℕ} → (o, left) ≡ prove_outcome l key lent positions u v r s α t a → k ≡ number_of o → (k ≡ 0) ↔ (o ≡ Done)
 unfolding prove_outcome
@@ -42,9 +42,15 @@ solved l key lent positions u v r s α t a e n known =
 
 returns : tie.Need-returns
 returns c =
-    let e = c.before.before.before.before.before.prove.ensures in
+    let e = c.prove.ensures in
     (when_numbered e.0 c.number.ensures, (told-leans c.number.ensures e.1.0, solved _ _ _ _ _ _ _ _ _ _ _ e.0 c.number.ensures e.1.1))
 
-pub perk-prove-spec : {M : Type 1} → statement M
-perk-prove-spec =
-    tie.close (tie.spec prove-requires number-requires same_length same-length-2 returns)
+pub perk_prove_spec : {M : Type 1} → statement M
+perk_prove_spec =
+    tie.close
+    (tie.spec
+    prove-requires
+    number-requires
+    shape_of-t
+    shape_of-a
+    returns)

@@ -57,17 +57,22 @@ told n positions old e =
     (λ z. number-well o (between n positions) old (sym number ∙ z), λ d. number ∙ ap (λ x. (index_or x old).0) d)
     (λ i. (λ z. number-offender o (between n positions) old (sym number ∙ z.0) ∙ ap Offender (sym index ∙ z.1), λ d. (number ∙ ap (λ x. (index_or x old).0) d, index ∙ ap (λ x. (index_or x old).1) d)))
 
-quick-look-requires : tie.Need-quick-look-requires
-quick-look-requires c κs = search rules
+quick_look-requires : tie.Need-quick_look-requires
+quick_look-requires c κs = search rules
 
-put-index-requires : tie.Need-put-index-requires
-put-index-requires c κs = search rules
+put_index-requires : tie.Need-put_index-requires
+put_index-requires c κs = search rules
 
 returns : tie.Need-returns
 returns c =
-    let a = c.before.before.before.before.args in
-    let e = c.put-index.ensures ∙ ap (λ (x : Looked). index_or x a.index.now) c.before.before.quick-look.ensures.0 in
+    let a = c.args in
+    let e = c.put_index.ensures ∙ ap (λ (x : Looked). index_or x a.index.now) c.quick_look.ensures.0 in
     (e, told a.n a.positions.now a.index.now e)
 
-pub perk-quick-look-spec : {M : Type 1} → statement M
-perk-quick-look-spec = tie.close (tie.spec quick-look-requires put-index-requires returns)
+pub perk_quick_look_spec : {M : Type 1} → statement M
+perk_quick_look_spec =
+    tie.close
+    (tie.spec
+    quick_look-requires
+    put_index-requires
+    returns)

@@ -21,11 +21,11 @@ use Rattle.perk.proofs.perk_rank.Tie as tie
 rank-requires : tie.Need-rank-requires
 rank-requires c κs = search rules
 
-put-rank-requires : tie.Need-put-rank-requires
-put-rank-requires c κs = search rules
+put_rank-requires : tie.Need-put_rank-requires
+put_rank-requires c κs = search rules
 
-same_length : tie.Need-same-length
-same_length c = search rules
+shape_of-matrix : tie.Need-shape_of-matrix
+shape_of-matrix c = search rules
 
 -- where the number is 0 the answer is the rank that was put
 told : (l : Level) (key : Key) (h matrix : List ℕ) (a : Ranked) (old : ℕ) {s : List ℕ} {r k : ℕ} → (r, k) ≡ rank_or a old → (a, s) ≡ rank_outcome l key h matrix → r ≡ 0 → a ≡ Rank k
@@ -49,10 +49,16 @@ told l key h matrix a old {k = k} e f z = is ∙ ap Rank (sym (ap (λ (p : ℕ �
 
 returns : tie.Need-returns
 returns c =
-    let e = c.before.before.before.before.rank.ensures in
-    let a = c.before.before.before.before.before.before.before.before.args in
-    let r = c.before.before.before.before.rank.result in
-    (put rank_or r a.rank.now c.put-rank.ensures e.0, λ z. e.1 c.put-rank.new.1.0 (told _ _ _ _ r a.rank.now c.put-rank.ensures e.0 z))
+    let e = c.rank.ensures in
+    let a = c.args in
+    let r = c.rank.result in
+    (put rank_or r a.rank.now c.put_rank.ensures e.0, λ z. e.1 c.put_rank.new.rank (told _ _ _ _ r a.rank.now c.put_rank.ensures e.0 z))
 
-pub perk-rank-spec : {M : Type 1} → statement M
-perk-rank-spec = tie.close (tie.spec rank-requires put-rank-requires same_length returns)
+pub perk_rank_spec : {M : Type 1} → statement M
+perk_rank_spec =
+    tie.close
+    (tie.spec
+    rank-requires
+    put_rank-requires
+    shape_of-matrix
+    returns)

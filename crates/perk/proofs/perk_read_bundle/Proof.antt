@@ -6,16 +6,21 @@ use borrow.Author.Rules.{rules}
 use Rattle.perk.proofs.perk_read_bundle.Statement.{statement}
 use Rattle.perk.proofs.perk_read_bundle.Tie as tie
 
-read-bundle-requires : tie.Need-read-bundle-requires
-read-bundle-requires c κs = search rules
+read_bundle-requires : tie.Need-read_bundle-requires
+read_bundle-requires c κs = search rules
 
-put-bundle-requires : tie.Need-put-bundle-requires
-put-bundle-requires c κs = bundle_small c.before.before.before.before.before.args.bytes.now _ c.before.before.before.read-bundle.ensures
+put_bundle-requires : tie.Need-put_bundle-requires
+put_bundle-requires c κs = bundle_small c.args.bytes.now _ c.read_bundle.ensures
 
 returns : tie.Need-returns
 returns c =
-    let a = c.before.before.before.before.before.before.args in
-    c.put-bundle.ensures ∙ ap (λ (r : Read). bundle_put r (a.n.now, a.m.now, a.groups.now)) c.before.before.before.before.read-bundle.ensures
+    let a = c.args in
+    c.put_bundle.ensures ∙ ap (λ (r : Read). bundle_put r (a.n.now, a.m.now, a.groups.now)) c.read_bundle.ensures
 
-pub perk-read-bundle-spec : {M : Type 1} → statement M
-perk-read-bundle-spec = tie.close (tie.spec read-bundle-requires put-bundle-requires returns)
+pub perk_read_bundle_spec : {M : Type 1} → statement M
+perk_read_bundle_spec =
+    tie.close
+    (tie.spec
+    read_bundle-requires
+    put_bundle-requires
+    returns)

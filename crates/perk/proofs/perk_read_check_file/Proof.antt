@@ -9,14 +9,19 @@ use borrow.Author.Rules.{rules}
 use Rattle.perk.proofs.perk_read_check_file.Statement.{statement}
 use Rattle.perk.proofs.perk_read_check_file.Tie as tie
 
-read-check-file-requires : tie.Need-read-check-file-requires
-read-check-file-requires c κs = search rules
+read_check_file-requires : tie.Need-read_check_file-requires
+read_check_file-requires c κs = search rules
 
-put-read-requires : tie.Need-put-read-requires
-put-read-requires c κs = read_small (check_file_reader (level_at FIRST)) c.before.before.before.before.before.args.bytes.now (check_file_sized (level_at FIRST) c.before.before.before.before.before.args.bytes.now) _ c.before.before.before.read-check-file.ensures
+put_read-requires : tie.Need-put_read-requires
+put_read-requires c κs = read_small (check_file_reader (level_at FIRST)) c.args.bytes.now (check_file_sized (level_at FIRST) c.args.bytes.now) _ c.read_check_file.ensures
 
 returns : tie.Need-returns
-returns c = c.put-read.ensures ∙ ap (λ (r : Read). read_put r (c.before.before.before.before.before.before.args.n.now, c.before.before.before.before.before.before.args.m.now, c.before.before.before.before.before.before.args.serial.now)) c.before.before.before.before.read-check-file.ensures
+returns c = c.put_read.ensures ∙ ap (λ (r : Read). read_put r (c.args.n.now, c.args.m.now, c.args.serial.now)) c.read_check_file.ensures
 
-pub perk-read-check-file-spec : {M : Type 1} → statement M
-perk-read-check-file-spec = tie.close (tie.spec read-check-file-requires put-read-requires returns)
+pub perk_read_check_file_spec : {M : Type 1} → statement M
+perk_read_check_file_spec =
+    tie.close
+    (tie.spec
+    read_check_file-requires
+    put_read-requires
+    returns)

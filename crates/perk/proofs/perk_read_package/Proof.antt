@@ -9,14 +9,19 @@ use borrow.Author.Rules.{rules}
 use Rattle.perk.proofs.perk_read_package.Statement.{statement}
 use Rattle.perk.proofs.perk_read_package.Tie as tie
 
-read-package-requires : tie.Need-read-package-requires
-read-package-requires c κs = search rules
+read_package-requires : tie.Need-read_package-requires
+read_package-requires c κs = search rules
 
-put-read-requires : tie.Need-put-read-requires
-put-read-requires c κs = read_small (package_reader (level_at FIRST)) c.before.before.before.before.before.args.bytes.now (package_sized (level_at FIRST) c.before.before.before.before.before.args.bytes.now) _ c.before.before.before.read-package.ensures
+put_read-requires : tie.Need-put_read-requires
+put_read-requires c κs = read_small (package_reader (level_at FIRST)) c.args.bytes.now (package_sized (level_at FIRST) c.args.bytes.now) _ c.read_package.ensures
 
 returns : tie.Need-returns
-returns c = c.put-read.ensures ∙ ap (λ (r : Read). read_put r (c.before.before.before.before.before.before.args.n.now, c.before.before.before.before.before.before.args.m.now, c.before.before.before.before.before.before.args.serial.now)) c.before.before.before.before.read-package.ensures
+returns c = c.put_read.ensures ∙ ap (λ (r : Read). read_put r (c.args.n.now, c.args.m.now, c.args.serial.now)) c.read_package.ensures
 
-pub perk-read-package-spec : {M : Type 1} → statement M
-perk-read-package-spec = tie.close (tie.spec read-package-requires put-read-requires returns)
+pub perk_read_package_spec : {M : Type 1} → statement M
+perk_read_package_spec =
+    tie.close
+    (tie.spec
+    read_package-requires
+    put_read-requires
+    returns)

@@ -9,11 +9,17 @@ sum-requires c κs = search rules
 number-requires : tie.Need-number-requires
 number-requires c κs = search rules
 
-same_length : tie.Need-same-length
-same_length c = search rules
+shape_of-out : tie.Need-shape_of-out
+shape_of-out c = search rules
 
 returns : tie.Need-returns
-returns c = when_numbered c.before.before.before.sum.ensures c.number.ensures
+returns c = when_numbered c.sum.ensures c.number.ensures
 
-pub perk-sum-spec : {M : Type 1} → statement M
-perk-sum-spec = tie.close (tie.spec sum-requires number-requires same_length returns)
+pub perk_sum_spec : {M : Type 1} → statement M
+perk_sum_spec =
+    tie.close
+    (tie.spec
+    sum-requires
+    number-requires
+    shape_of-out
+    returns)

@@ -10,11 +10,17 @@ values-requires c κs = search rules
 number-requires : tie.Need-number-requires
 number-requires c κs = search rules
 
-same_length : tie.Need-same-length
-same_length c = search rules
+shape_of-values : tie.Need-shape_of-values
+shape_of-values c = search rules
 
 returns : tie.Need-returns
-returns c = let e = c.before.before.before.values.ensures in (when_numbered e.0 c.number.ensures, told-leans c.number.ensures e.1)
+returns c = let e = c.values.ensures in (when_numbered e.0 c.number.ensures, told-leans c.number.ensures e.1)
 
-pub perk-values-spec : {M : Type 1} → statement M
-perk-values-spec = tie.close (tie.spec values-requires number-requires same_length returns)
+pub perk_values_spec : {M : Type 1} → statement M
+perk_values_spec =
+    tie.close
+    (tie.spec
+    values-requires
+    number-requires
+    shape_of-values
+    returns)

@@ -21,8 +21,8 @@ use Rattle.perk.proofs.perk_verify.Tie as tie
 verify-requires : tie.Need-verify-requires
 verify-requires c κs = search rules
 
-verdict-number-requires : tie.Need-verdict-number-requires
-verdict-number-requires c κs = search rules
+verdict_number-requires : tie.Need-verdict_number-requires
+verdict_number-requires c κs = search rules
 
 told : (l : Level) (key : Key) (lent : KeySlices) (t q Δ masks α a : List ℕ) {v : Verdict} {k : ℕ} → v ≡ verify_outcome l key lent t q Δ masks α a → k ≡ verdict_number v → ((k ≡ 0) ↔ (v ≡ Accepted)) × ((k ≡ 255) ↔ (v ≡ Rejected))
 unfolding verify_outcome
@@ -40,8 +40,13 @@ judges l key lent t q Δ masks α a e n known =
 
 returns : tie.Need-returns
 returns c =
-    let e = c.before.verify.ensures in
-    (c.verdict-number.ensures ∙ ap verdict_number e.0, (turned-leans c.verdict-number.ensures e.1.0, judges _ _ _ _ _ _ _ _ _ e.0 c.verdict-number.ensures e.1.1))
+    let e = c.verify.ensures in
+    (c.verdict_number.ensures ∙ ap verdict_number e.0, (turned-leans c.verdict_number.ensures e.1.0, judges _ _ _ _ _ _ _ _ _ e.0 c.verdict_number.ensures e.1.1))
 
-pub perk-verify-spec : {M : Type 1} → statement M
-perk-verify-spec = tie.close (tie.spec verify-requires verdict-number-requires returns)
+pub perk_verify_spec : {M : Type 1} → statement M
+perk_verify_spec =
+    tie.close
+    (tie.spec
+    verify-requires
+    verdict_number-requires
+    returns)

@@ -20,14 +20,14 @@ use borrow.Author.Rules.{rules}
 use Rattle.perk.proofs.perk_write_package.Statement.{statement}
 use Rattle.perk.proofs.perk_write_package.Tie as tie
 
-write-package-requires : tie.Need-write-package-requires
-write-package-requires c κs = search rules
+write_package-requires : tie.Need-write_package-requires
+write_package-requires c κs = search rules
 
-put-length-requires : tie.Need-put-length-requires
-put-length-requires c κs = search rules
+put_length-requires : tie.Need-put_length-requires
+put_length-requires c κs = search rules
 
-same_length : tie.Need-same-length
-same_length c = search rules
+shape_of-out : tie.Need-shape_of-out
+shape_of-out c = search rules
 
 -- where the number is 0 the answer is the length that was put
 told : (l : Level) (key : Key) (lent : KeySlices) (serial : ℕ) (t a out : List ℕ) (w : Written) (old : ℕ) {s : List ℕ} {r k : ℕ} → (r, k) ≡ length_or w old → (w, s) ≡ write_outcome l key lent serial t a out → r ≡ 0 → w ≡ Length k
@@ -67,12 +67,17 @@ told-leans w old {r = r} e known = record { fifteen = Iff.trans (λ z. only w (s
 
 returns : tie.Need-returns
 returns c =
-    let e = c.before.before.before.before.write-package.ensures in
-    let old = c.before.before.before.before.before.before.before.before.before.before.before.before.args.length.now in
-    let w = c.before.before.before.before.write-package.result in
-    let f = c.put-length.ensures in
-    (put length_or w old f e.0, (told-leans w old f e.1.0, λ z. e.1.1 c.put-length.new.1.0 (told _ _ _ _ _ _ _ w old f e.0 z)))
+    let e = c.write_package.ensures in
+    let old = c.args.length.now in
+    let w = c.write_package.result in
+    let f = c.put_length.ensures in
+    (put length_or w old f e.0, (told-leans w old f e.1.0, λ z. e.1.1 c.put_length.new.length (told _ _ _ _ _ _ _ w old f e.0 z)))
 
-pub perk-write-package-spec : {M : Type 1} → statement M
-perk-write-package-spec =
-    tie.close (tie.spec write-package-requires put-length-requires same_length returns)
+pub perk_write_package_spec : {M : Type 1} → statement M
+perk_write_package_spec =
+    tie.close
+    (tie.spec
+    write_package-requires
+    put_length-requires
+    shape_of-out
+    returns)

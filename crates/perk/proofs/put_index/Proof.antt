@@ -5,25 +5,31 @@ use borrow.Author.Rules.{rules}
 use Rattle.perk.proofs.put_index.Statement.{statement}
 use Rattle.perk.proofs.put_index.Tie as tie
 
-enum_told : tie.Need-enum-told
-enum_told c = search rules
+enum_told-1 : tie.Need-enum_told-1
+enum_told-1 c = search rules
 
-enum-known-answer : tie.Need-enum-known-answer
-enum-known-answer c = search rules
+enum_known-answer : tie.Need-enum_known-answer
+enum_known-answer c = search rules
 
-enum-known-answer-2 : tie.Need-enum-known-answer-2
-enum-known-answer-2 c = search rules
+enum_known-answer-in-Refused-1 : tie.Need-enum_known-answer-in-Refused-1
+enum_known-answer-in-Refused-1 c = search rules
 
-returns : tie.Need-returns
-returns c = let a = c.before.before.args in ap (λ (r : Looked). index_or r a.index.now) (sym c.enum_told.given.1)
+returns-in-Well : tie.Need-returns-in-Well
+returns-in-Well c = let a = c.args in ap (λ (r : Looked). index_or r a.index.now) (sym c.in-Well.is)
 
-returns-2 : tie.Need-returns-2
-returns-2 c = let a = c.before.before.before.args in ap (λ (r : Looked). index_or r a.index.now) (sym c.before.answer.given.1)
+returns-in-Offender : tie.Need-returns-in-Offender
+returns-in-Offender c = let a = c.args in ap (λ (r : Looked). index_or r a.index.now) (sym c.in-Offender.is)
 
-returns-3 : tie.Need-returns-3
-returns-3 c = let a = c.before.before.before.args in ap (λ (r : Looked). index_or r a.index.now) (sym c.before.answer2.given.1)
+returns-in-Refused : tie.Need-returns-in-Refused
+returns-in-Refused c = let a = c.args in ap (λ (r : Looked). index_or r a.index.now) (sym c.in-Refused.is)
 
-pub put-index-spec : {M : Type 1} → statement M
-put-index-spec =
+pub put_index_spec : {M : Type 1} → statement M
+put_index_spec =
     tie.close
-    (tie.spec enum_told enum-known-answer enum-known-answer-2 returns returns-2 returns-3)
+    (tie.spec
+    enum_told-1
+    enum_known-answer
+    enum_known-answer-in-Refused-1
+    returns-in-Well
+    returns-in-Offender
+    returns-in-Refused)

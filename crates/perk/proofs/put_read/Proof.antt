@@ -6,28 +6,35 @@ use borrow.Author.Rules.{rules}
 use Rattle.perk.proofs.put_read.Statement.{statement}
 use Rattle.perk.proofs.put_read.Tie as tie
 
-enum-known-answer : tie.Need-enum-known-answer
-enum-known-answer c = search rules
+enum_known-answer : tie.Need-enum_known-answer
+enum_known-answer c = search rules
 
-cast-n : tie.Need-overflow-cast-n
-cast-n c = omega (arith, (subst SmallSizes c.before.before.answer.given.1 c.before.before.before.before.requires).0)
+overflow_cast-n : tie.Need-overflow_cast-n
+overflow_cast-n c = omega (arith, (subst SmallSizes c.in-Fields.is c.requires).0)
 
-cast-m : tie.Need-overflow-cast-m
-cast-m c = omega (arith, (subst SmallSizes c.before.before.before.answer.given.1 c.before.before.before.before.before.requires).1)
+overflow_cast-m : tie.Need-overflow_cast-m
+overflow_cast-m c = omega (arith, (subst SmallSizes c.in-Fields.is c.requires).1)
 
-enum-known-answer-2 : tie.Need-enum-known-answer-2
-enum-known-answer-2 c = search rules
+enum_known-answer-in-Refused-1 : tie.Need-enum_known-answer-in-Refused-1
+enum_known-answer-in-Refused-1 c = search rules
 
-returns : tie.Need-returns
-returns c =
-    let a = c.before.before.before.before.before.args in
-    ap (λ (r : Read). read_put r (a.n.now, a.m.now, a.serial.now)) (sym c.before.before.before.answer.given.1)
+returns-in-Fields : tie.Need-returns-in-Fields
+returns-in-Fields c =
+    let a = c.args in
+    ap (λ (r : Read). read_put r (a.n.now, a.m.now, a.serial.now)) (sym c.in-Fields.is)
 
-returns-2 : tie.Need-returns-2
-returns-2 c =
-    let a = c.before.before.before.args in
-    ap (λ (r : Read). read_put r (a.n.now, a.m.now, a.serial.now)) (sym c.before.answer2.given.1)
+returns-in-Refused : tie.Need-returns-in-Refused
+returns-in-Refused c =
+    let a = c.args in
+    ap (λ (r : Read). read_put r (a.n.now, a.m.now, a.serial.now)) (sym c.in-Refused.is)
 
-pub put-read-spec : {M : Type 1} → statement M
-put-read-spec =
-    tie.close (tie.spec enum-known-answer cast-n cast-m enum-known-answer-2 returns returns-2)
+pub put_read_spec : {M : Type 1} → statement M
+put_read_spec =
+    tie.close
+    (tie.spec
+    enum_known-answer
+    overflow_cast-n
+    overflow_cast-m
+    enum_known-answer-in-Refused-1
+    returns-in-Fields
+    returns-in-Refused)

@@ -5,17 +5,23 @@ use borrow.Author.Rules.{rules}
 use Rattle.perk.proofs.put_size.Statement.{statement}
 use Rattle.perk.proofs.put_size.Tie as tie
 
-enum-known-answer : tie.Need-enum-known-answer
-enum-known-answer c = search rules
+enum_known-answer : tie.Need-enum_known-answer
+enum_known-answer c = search rules
 
-enum-known-answer-2 : tie.Need-enum-known-answer-2
-enum-known-answer-2 c = search rules
+enum_known-answer-in-Refused-1 : tie.Need-enum_known-answer-in-Refused-1
+enum_known-answer-in-Refused-1 c = search rules
 
-returns : tie.Need-returns
-returns c = let a = c.before.before.before.args in ap (λ (w : Joined). size_or w (a.length.now, a.groups.now)) (sym c.before.answer.given.1)
+returns-in-Size : tie.Need-returns-in-Size
+returns-in-Size c = let a = c.args in ap (λ (w : Joined). size_or w (a.length.now, a.groups.now)) (sym c.in-Size.is)
 
-returns-2 : tie.Need-returns-2
-returns-2 c = let a = c.before.before.before.args in ap (λ (w : Joined). size_or w (a.length.now, a.groups.now)) (sym c.before.answer2.given.1)
+returns-in-Refused : tie.Need-returns-in-Refused
+returns-in-Refused c = let a = c.args in ap (λ (w : Joined). size_or w (a.length.now, a.groups.now)) (sym c.in-Refused.is)
 
-pub put-size-spec : {M : Type 1} → statement M
-put-size-spec = tie.close (tie.spec enum-known-answer enum-known-answer-2 returns returns-2)
+pub put_size_spec : {M : Type 1} → statement M
+put_size_spec =
+    tie.close
+    (tie.spec
+    enum_known-answer
+    enum_known-answer-in-Refused-1
+    returns-in-Size
+    returns-in-Refused)

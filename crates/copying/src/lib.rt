@@ -1,4 +1,6 @@
 // Bytes and the numbers that they make, put into and read from lent slices.
+#![tactic(auto)]
+
 ghost use Rattle.std.specs.Prelude.{◌≡◌, ◌+◌, ◌*◌, ◌%◌, ◌≤◌, ◌<◌, length, take, get_or};
 ghost use Rattle.lists.specs.Words.{put};
 ghost use Rattle.copying.specs.Words.{word, words, word_bytes, from_bytes};

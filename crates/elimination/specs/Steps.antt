@@ -1,7 +1,6 @@
 -- What the steps of the elimination do to words: inner data, no part of an entry's promise.
-use Rattle.std.specs.Prelude.{◌≡◌, Bool, cond, ◌&&◌, List, ℕ, ◌+◌, ◌-◌, ◌*◌, ◌<◌, eqb, leb, length, get_or}
+use Rattle.std.specs.Prelude.{◌≡◌, Bool, cond, ◌&&◌, List, ℕ, ◌+◌, ◌*◌, ◌<◌, eqb, leb, length, get_or}
 use Rattle.std.specs.Int.Bits.{bit_xor}
-use Rattle.field.specs.Ring.{Ring}
 use Rattle.field.specs.declared.Level.{Level}
 use Rattle.field.specs.Level.{F}
 use Rattle.field.specs.Word.{small, word}

@@ -1,4 +1,6 @@
 // Elimination on a matrix of m rows of n elements of F, row after row: its cleared form and its rank.
+#![tactic(auto)]
+
 ghost use Rattle.std.specs.Prelude.{◌≡◌, ◌&&◌, ◌+◌, ◌-◌, ◌*◌, ◌/◌, ◌%◌, ◌^◌, ◌≤◌, ◌<◌, ltb, length, get_or};
 ghost use Rattle.std.specs.Int.Bits.{bit_xor, bit_and};
 ghost use Rattle.field.specs.Ring.{Ring};

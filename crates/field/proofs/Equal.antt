@@ -10,7 +10,6 @@ use lib.ListN.{get_or}
 use lib.Seq.{ext_get_or}
 use Rattle.lists.specs.Words.{all}
 use Rattle.lists.proofs.Words.{all-at, all_from}
-use Rattle.field.specs.Ring.{Ring}
 use Rattle.field.specs.RingLaws.{add-equal}
 use Rattle.field.specs.declared.Level.{Level}
 use Rattle.field.specs.Level.{K}

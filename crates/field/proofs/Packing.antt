@@ -18,7 +18,7 @@ use Rattle.field.specs.Extension.{extend}
 use Rattle.field.specs.Word.{digits}
 use Rattle.field.specs.Packed.{lane, coordinate, TimesZ}
 use Rattle.field.proofs.Number.{multiple, multiple_more, times_x-number}
-use Rattle.field.proofs.Coordinate.{at, word_at, word-Y-zero, word-Y-tap, word-Y-other}
+use Rattle.field.proofs.Coordinate.{word_at, word-Y-zero, word-Y-tap, word-Y-other}
 use Rattle.field.proofs.Lanes.{lane_xor, lane_and, lane-mul, lane-digit, lane-cut, lane-put-at, lane-put-other, lane_mask}
 
 -- a lane, by a shift

@@ -1,7 +1,6 @@
 -- Numbers and words as elements of F and K, and back.
 use Rattle.std.specs.Prelude.{Bool, true, false, cond, List, [], ◌∷◌, ℕ, zero, suc, ◌+◌, ◌*◌, ◌/◌, ◌%◌, ◌^◌, ◌<◌, leb, eqb, get_or}
 use Rattle.lists.specs.Words.{all}
-use Rattle.field.specs.Ring.{Ring}
 use Rattle.field.specs.Vector.{Vector}
 use Rattle.field.specs.Level.{F, K}
 use Rattle.field.specs.declared.Level.{Level}

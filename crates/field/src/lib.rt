@@ -1,4 +1,6 @@
 // The fields F and K of the specification.
+#![tactic(auto)]
+
 ghost use Rattle.std.specs.Prelude.{◌≡◌, ◌+◌, ◌≤◌, ◌<◌, eqb, length};
 ghost use Rattle.lists.specs.Words.{part, put};
 ghost use Rattle.field.specs.Ring.{Ring, Hom};

@@ -1,6 +1,5 @@
 -- What verify answers: a refusal by the rows of the table, or whether its equation holds.
 use Rattle.std.specs.Prelude.{Bool, true, false, ℕ}
-use Rattle.refusal.specs.declared.Refusal.{Refusal}
 use Rattle.refusal.specs.declared.Answer.{Answer}
 use Rattle.refusal.specs.declared.Answer.TheVariants.{Done, Refused}
 use Rattle.refusal.specs.declared.Verdict.{Verdict}

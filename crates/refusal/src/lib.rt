@@ -1,4 +1,6 @@
 // The refusals of the specification, with their numbers, and the answer of an entry that writes its results.
+#![tactic(auto)]
+
 ghost use Rattle.std.specs.Prelude.{◌≡◌};
 ghost use Rattle.refusal.specs.Answer.{number_of};
 ghost use Rattle.refusal.specs.Verdict.{verdict_number};

@@ -1,10 +1,8 @@
 use Prim.Native.Nat.{ℕ, ◌+◌, ◌-◌, ◌*◌, ◌^◌, ◌≤◌, ◌<◌}
 use mathlib.Core.Path.{◌≡◌, refl, sym, ◌∙◌, subst}
-use mathlib.Core.Logic.{⊎_elim}
 use native.Mathlib.Omega.{arith}
 use lib.ListN.{length}
 use Rattle.lists.proofs.Words.{part_length}
-use Rattle.field.specs.Ring.{Ring}
 use Rattle.field.specs.Level.{level_at, F}
 use Rattle.field.specs.Word.{small, word, Words}
 use Rattle.field.proofs.Fields.{bounded}

@@ -1,7 +1,6 @@
 use Prim.Native.Nat.{suc, ◌+◌, ◌-◌, ◌^◌, ◌≤◌}
 use mathlib.Core.Path.{◌≡◌, sym, ap, ◌∙◌}
 use native.Mathlib.Omega.{arith}
-use Rattle.field.specs.Ring.{Ring}
 use Rattle.field.specs.Sums.{pow}
 use Rattle.field.specs.declared.Level.{Level}
 use Rattle.field.specs.Level.{F, level_at}

@@ -12,6 +12,6 @@ read i = get_or (first ∷ second ∷ []) i record { width = 0; tap = 0; limit =
 pub returns : goal.returns
 returns c =
     elim c.if-number-eq-SECOND.branch [
-      then-number-eq-SECOND w ↦ ap read w.i-is ∙ sym (at_second w.if-number-eq-SECOND.true)
-    | else-number-eq-SECOND w ↦ ap read w.i-is ∙ sym (at_first w.if-number-eq-SECOND.false)
+      | then-number-eq-SECOND w ↦ ap read w.i-is ∙ sym (at_second w.if-number-eq-SECOND.true)
+      | else-number-eq-SECOND w ↦ ap read w.i-is ∙ sym (at_first w.if-number-eq-SECOND.false)
     ]

@@ -2,7 +2,6 @@
 use Rattle.std.specs.Prelude.{Bool, not, List, [], ◌∷◌, ℕ, eqb, length}
 use Rattle.refusal.specs.Answer.{decided}
 use Rattle.refusal.specs.declared.Answer.{Answer}
-use Rattle.field.specs.Ring.{Ring}
 use Rattle.field.specs.Level.{first, K}
 use Rattle.field.specs.Word.{element, words, within}
 

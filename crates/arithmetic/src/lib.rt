@@ -1,4 +1,6 @@
 // The entries sum and product in K.
+#![tactic(auto)]
+
 ghost use Rattle.std.specs.Prelude.{◌≡◌};
 ghost use Rattle.refusal.specs.Answer.{first_of};
 ghost use Rattle.arithmetic.specs.Entry.{rows, sum_outcome, product_outcome};

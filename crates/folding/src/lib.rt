@@ -1,5 +1,7 @@
 // Weighted sums of the n + m polynomials and of the n + m values, without making them: two columns that differ in one digit are
 // folded into one, digit after digit.
+#![tactic(auto)]
+
 ghost use Rattle.std.specs.Prelude.{◌≡◌, ◌^◌, ◌<◌};
 
 mod fold;

@@ -1,4 +1,6 @@
 // The key of the specification: its sizes and d, the positions of a prover, and the refusals that concern them.
+#![tactic(auto)]
+
 ghost use Rattle.std.specs.Prelude.{◌≡◌, ◌++◌, ◌+◌, ◌≤◌, ◌<◌, ltb, eqb, length};
 ghost use Rattle.refusal.specs.Answer.{first_of};
 ghost use Rattle.field.specs.Level.{level_at};

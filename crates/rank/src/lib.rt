@@ -1,4 +1,6 @@
 // The entry rank: for an office that tests a key before it uses it.
+#![tactic(auto)]
+
 ghost use Rattle.std.specs.Prelude.{◌≡◌, ℕ};
 ghost use Rattle.refusal.specs.Answer.{first_of};
 ghost use Rattle.field.specs.Level.{FIRST, level_at};

@@ -1,5 +1,7 @@
 // One row's work on lent elements: its products for every column, and its share in the n + m results.
 // No branch and no index depends on positions, offsets, bits or numbers.
+#![tactic(auto)]
+
 ghost use Rattle.std.specs.Prelude.{◌≡◌, length, replicate};
 
 pub mod elements;

@@ -95,12 +95,12 @@ loop-k-preserved c =
     let q : l.k < a.rows = omega arith in
     let both : Grid a.rows a.n c.if-used-from-eq0.rest (cleared L a.n a.c a.v a.from a.used.now a.row.now a.rest.now (l.k + 1)) × Words L c.if-used-from-eq0.rest =
     elim c.if-used-from-eq0.branch [
-      then-used-from-eq0 w ↦ let e = factor a.level (entry_at a.n l.rest l.k a.c) a.v w.product-f.result (l.invariant.2 b) c.requires.1.2 w.product-f.ensures in
-    rw w.rest-is (
-      added L a.n a.c a.v a.from a.used.now a.row.now a.rest.now a.rows l.k l.rest q c.requires.0.4 l.invariant.1 b (l.k * a.n + a.n - b) w.product-f.result w.add_multiple.new.part refl (omega arith) w.if-used-from-eq0.true e w.add_multiple.ensures,
-      added_words L a.n a.c a.v a.from a.used.now a.row.now a.rest.now a.rows l.k l.rest q c.requires.0.4 l.invariant.1 b (l.k * a.n + a.n - b) w.product-f.result w.add_multiple.new.part refl (omega arith) w.if-used-from-eq0.true e w.add_multiple.ensures l.invariant.2,
-    )
-    | else-used-from-eq0 w ↦ rw w.rest-is (skipped L a.n a.c a.v a.from a.used.now a.row.now a.rest.now a.rows l.k l.rest q c.requires.0.4 l.invariant.1 w.if-used-from-eq0.false, l.invariant.2)
+      | then-used-from-eq0 w ↦ let e = factor a.level (entry_at a.n l.rest l.k a.c) a.v w.product-f.result (l.invariant.2 b) c.requires.1.2 w.product-f.ensures in
+          rw w.rest-is (
+            added L a.n a.c a.v a.from a.used.now a.row.now a.rest.now a.rows l.k l.rest q c.requires.0.4 l.invariant.1 b (l.k * a.n + a.n - b) w.product-f.result w.add_multiple.new.part refl (omega arith) w.if-used-from-eq0.true e w.add_multiple.ensures,
+            added_words L a.n a.c a.v a.from a.used.now a.row.now a.rest.now a.rows l.k l.rest q c.requires.0.4 l.invariant.1 b (l.k * a.n + a.n - b) w.product-f.result w.add_multiple.new.part refl (omega arith) w.if-used-from-eq0.true e w.add_multiple.ensures l.invariant.2,
+          )
+      | else-used-from-eq0 w ↦ rw w.rest-is (skipped L a.n a.c a.v a.from a.used.now a.row.now a.rest.now a.rows l.k l.rest q c.requires.0.4 l.invariant.1 w.if-used-from-eq0.false, l.invariant.2)
     ] in
     (omega arith, both.0, both.1)
 

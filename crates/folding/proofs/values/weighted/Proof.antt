@@ -65,14 +65,13 @@ scaled-length : (c : tie.After-clear) → length c.clear.new.s ≡ length c.args
 scaled-length c = ap length c.clear.ensures ∙ blanks-length (length c.args.scaled.now)
 
 scale-requires : tie.Need-scale-requires
-scale-requires c κs =
-    (
-      cleared-words (L c.before.before.before.before.before.before.before.before.before.before.before.before.before.before.before.before.before.before.before.before.before.before.before.before.before.before.before.before.before.before) (length c.args.scaled.now) c.clear.ensures,
-      c.requires.0.3,
-      record { factor = Δ c.before.before.before.before.before.before.before.before.before.before.before.before.before.before.before.before.before.before.before.before.before.before.before.before.before.before.before.before.before.before; table = table c.before.before.before.before.before },
-      fits_le (L c.before.before.before.before.before.before.before.before.before.before.before.before.before.before.before.before.before.before.before.before.before.before.before.before.before.before.before.before.before.before) c.args.n c.args.n (omega arith) (scaled-length c.before.before.before.before.before.before.before.before.before.before.before.before.before.before.before.before.before) c.requires.1.5,
-      few c.before.before.before.before.before.before.before.before.before.before.before.before.before.before.before.before.before.before.before.before.before.before.before.before.before.before.before.before.before.before,
-    )
+scale-requires c κs = (
+  cleared-words (L c.before.before.before.before.before.before.before.before.before.before.before.before.before.before.before.before.before.before.before.before.before.before.before.before.before.before.before.before.before.before) (length c.args.scaled.now) c.clear.ensures,
+  c.requires.0.3,
+  record { factor = Δ c.before.before.before.before.before.before.before.before.before.before.before.before.before.before.before.before.before.before.before.before.before.before.before.before.before.before.before.before.before.before; table = table c.before.before.before.before.before },
+  fits_le (L c.before.before.before.before.before.before.before.before.before.before.before.before.before.before.before.before.before.before.before.before.before.before.before.before.before.before.before.before.before.before) c.args.n c.args.n (omega arith) (scaled-length c.before.before.before.before.before.before.before.before.before.before.before.before.before.before.before.before.before) c.requires.1.5,
+  few c.before.before.before.before.before.before.before.before.before.before.before.before.before.before.before.before.before.before.before.before.before.before.before.before.before.before.before.before.before.before,
+)
 
 scaled-same : (c : tie.After-scale) → length c.scale.new.dst ≡ length c.args.scaled.now
 scaled-same c = (c.scale.ensures (Δ c.before.before.before.before.before.before.before.before.before.before.before.before.before.before.before.before.before.before.before.before.before.before.before.before.before.before.before.before.before.before.before) (table c.before.before.before.before.before.before)).same ∙ scaled-length c.before.before.before.before.before.before.before.before.before.before.before.before.before.before.before.before.before.before

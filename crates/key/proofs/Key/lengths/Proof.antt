@@ -2,7 +2,6 @@ use mathlib.Core.Path.{ap₂, subst}
 use native.Mathlib.Nat.{mul-le-mul}
 use Rattle.field.specs.declared.Level.{Level}
 use Rattle.field.proofs.Fields.{bounded}
-use Rattle.key.specs.Key.{degree}
 use Rattle.key.proofs.Sized.{degree-lt, degree-some}
 use Prim.Native.Nat.{ℕ, ◌+◌, ◌-◌, ◌*◌, ◌≤◌}
 use mathlib.Core.Path.{sym, ap}

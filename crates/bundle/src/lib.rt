@@ -1,4 +1,6 @@
 // Bundles of the specification: the entry read_bundle, for records rooms.
+#![tactic(auto)]
+
 ghost use Rattle.std.specs.Prelude.{◌≡◌, [], ◌∷◌, suc, ◌+◌, ◌≤◌, length};
 ghost use Rattle.refusal.specs.Answer.{first_of};
 ghost use Rattle.field.specs.Level.{FIRST, level_at};

@@ -1,4 +1,6 @@
 // A check file's bytes to a verdict, and the line that perkcheck prints.
+#![tactic(auto)]
+
 ghost use Rattle.std.specs.Prelude.{◌≡◌, [], ◌∷◌, ◌++◌, ◌+◌, ◌%◌, ◌≤◌, ◌<◌, length, take};
 ghost use Rattle.lists.specs.Words.{put};
 ghost use Rattle.copying.specs.Words.{words};

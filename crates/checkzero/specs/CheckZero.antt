@@ -1,5 +1,5 @@
 -- CheckZero: the prover's masked sum of the polynomials, and the equation by which the verifier accepts, for any modelling.
-use Rattle.std.specs.Prelude.{◌≡◌, Bool, cond, ℕ, zero, suc, ◌-◌, ◌<◌, eqb}
+use Rattle.std.specs.Prelude.{◌≡◌, Bool, cond, ℕ, suc, ◌-◌, ◌<◌, eqb}
 use Rattle.field.specs.Ring.{Ring}
 use Rattle.field.specs.Vector.{Vector}
 use Rattle.field.specs.Word.{vector}

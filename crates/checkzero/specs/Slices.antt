@@ -1,7 +1,6 @@
 -- CheckZero on slices: what prove tests and writes, and what verify compares.
 use Rattle.std.specs.Prelude.{Bool, true, ◌&&◌, List, ℕ, zero, suc}
 use Rattle.lists.specs.Words.{concat}
-use Rattle.field.specs.Ring.{Ring}
 use Rattle.field.specs.Vector.{Vector}
 use Rattle.field.specs.declared.Level.{Level}
 use Rattle.field.specs.Level.{K}

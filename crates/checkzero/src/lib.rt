@@ -1,5 +1,7 @@
 // The work of CheckZero on lent slices: weighted sums, masks, and the two sides of the verifier's equation. No entry.
 // No branch and no index depends on the content of a slice.
+#![tactic(auto)]
+
 ghost use Rattle.std.specs.Prelude.{◌≡◌, List, ℕ, ◌+◌, ◌-◌, ◌*◌, ◌^◌, ◌≤◌, ◌<◌, eqb, length};
 ghost use Rattle.lists.specs.Words.{concat};
 ghost use Rattle.field.specs.Level.{level_at, K};

@@ -1,4 +1,6 @@
 // The entries constraints and values: the specification, 'Polynomials and values'.
+#![tactic(auto)]
+
 ghost use Rattle.std.specs.Prelude.{◌≡◌, eqb, length};
 ghost use Rattle.lists.specs.Lent.{long};
 ghost use Rattle.refusal.specs.Answer.{refusal, first_of};

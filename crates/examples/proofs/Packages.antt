@@ -2,7 +2,7 @@
 use mathlib.Core.Path.{◌≡◌, sym, ap, ap₂, ◌∙◌}
 use mathlib.Core.List.{List}
 use Prim.Native.Nat.{ℕ}
-use lib.ListN.{length, take}
+use lib.ListN.{take}
 use Rattle.lists.specs.Words.{part}
 use Rattle.copying.specs.Words.{Bytes}
 use Rattle.field.specs.Level.{FIRST, level_at}

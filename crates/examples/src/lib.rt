@@ -1,5 +1,7 @@
 // The starred examples of the specification as statements about the definitions, and callers that rely on the contracts of the
 // entries and on laws of their definitions.
+#![tactic(auto)]
+
 ghost use Rattle.std.specs.Prelude.{◌≡◌, ◌++◌, ℕ, ◌+◌, ◌≤◌, ◌<◌, length, take, drop};
 ghost use Rattle.lists.specs.Words.{part};
 ghost use Rattle.refusal.specs.declared.Answer.TheVariants.{Done};

@@ -1,6 +1,6 @@
 -- Groups of rising serials joined, by two cursors; and which of them differ.
 use mathlib.Core.Path.{◌≡◌, refl, sym, ap, ap₂, ◌∙◌, subst}
-use mathlib.Core.Bool.{Bool, true, false, not, ◌&&◌, ◌||◌}
+use mathlib.Core.Bool.{Bool, true, false, ◌||◌}
 use mathlib.Core.List.{List, [], ◌∷◌}
 use Prim.Native.Nat.{ℕ, ◌+◌, ◌≤◌, ◌<◌}
 use native.Mathlib.Omega.{arith}
@@ -8,7 +8,7 @@ use native.Mathlib.Decide.{dec_lt}
 use borrow.Author.Tests.{lt-ltb, le-ltb, ne_eqb}
 use Rattle.package.specs.Written.{Group}
 use Rattle.bundle.specs.Written.{Rising}
-use Rattle.joining.specs.Union.{insert, union, same, differs, differs_from, differ}
+use Rattle.joining.specs.Union.{insert, union, differs, differs_from, differ}
 
 -- a lower bound that is lower
 pub lower : (k j : ℕ) (gs : List Group) → j ≤ k → Rising k gs → Rising j gs

@@ -1,4 +1,6 @@
 // The entries join_bundles and look_before_join: for records rooms that hold two bundles of one key.
+#![tactic(auto)]
+
 ghost use Rattle.std.specs.Prelude.{◌≡◌, List, ℕ, ◌+◌, ◌-◌, ◌≤◌, length};
 ghost use Rattle.lists.specs.Words.{part, put};
 ghost use Rattle.refusal.specs.Answer.{first_of};

@@ -1,4 +1,6 @@
 // The fields of packages and check files of the specification: their rows, the tests of each, and where a content stands.
+#![tactic(auto)]
+
 ghost use Rattle.std.specs.Prelude.{◌≡◌, List, [], ◌∷◌, ◌+◌, ◌-◌, ◌≤◌, ◌<◌, eqb, length, get_or};
 ghost use Rattle.refusal.specs.Answer.{first_of};
 ghost use Rattle.refusal.specs.declared.Answer.TheVariants.{Done};

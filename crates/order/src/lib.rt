@@ -1,5 +1,7 @@
 // The entry quick_look: for a driver that wants to know whether n positions are an order before it fetches correlations. It branches on the
 // positions, as is asked, and its time tells the index that it answers.
+#![tactic(auto)]
+
 ghost use Rattle.std.specs.Prelude.{◌≡◌, ◌||◌, ℕ, ◌*◌, ◌≤◌, ◌<◌, eqb, length};
 ghost use Rattle.refusal.specs.Answer.{first_of};
 ghost use Rattle.field.specs.Level.{FIRST, level_at};

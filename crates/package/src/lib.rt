@@ -1,4 +1,6 @@
 // Packages and check files of the specification: the readers, and the field of a package.
+#![tactic(auto)]
+
 ghost use Rattle.std.specs.Prelude.{◌≡◌, List, ◌++◌, ◌+◌, ◌≤◌, ◌<◌, length};
 ghost use Rattle.refusal.specs.Answer.{first_of};
 ghost use Rattle.refusal.specs.declared.Answer.TheVariants.{Done};

@@ -1,5 +1,7 @@
 // The C interface: a slice is a pointer and then a length in elements; 0 is done or accepted, 255 is rejected,
 // any other result is the refusal's number.
+#![tactic(auto)]
+
 ghost use Rattle.std.specs.Prelude.{◌≡◌, List, ℕ, length as size};
 ghost use Rattle.refusal.specs.Answer.{numbered};
 ghost use Rattle.refusal.specs.Verdict.{verdict_number};
@@ -16,7 +18,7 @@ ghost use Rattle.checkfile.specs.Checking.{check_number, checking};
 ghost use Rattle.rank.specs.Entry.{rank_outcome, Tells};
 ghost use Rattle.order.specs.Entry.{look_outcome};
 ghost use Rattle.order.specs.Tells.{Tells as TellsOrder};
-ghost use Rattle.bundle.specs.Reading.{reading as readingBundle};
+ghost use Rattle.bundle.specs.Reading.{reading as reading_bundle};
 ghost use Rattle.joining.specs.Entry.{join_answer, join_outcome};
 ghost use Rattle.joining.specs.Laws.{ReadBack as ReadJoined};
 ghost use Rattle.perk.specs.Files.{SmallSizes, read_put, SmallBundle, bundle_put, span_of};
@@ -250,7 +252,7 @@ pub extern "C" fn perk_read_bundle(
     m: &mut u32,
     groups: &mut usize,
 ) -> u32
-    ensures { (result, (n.new, m.new, groups.new)) ≡ bundle_put (readingBundle (level_at FIRST) bytes.now) (n.old, m.old, groups.old) }
+    ensures { (result, (n.new, m.new, groups.new)) ≡ bundle_put (reading_bundle (level_at FIRST) bytes.now) (n.old, m.old, groups.old) }
 {
     put_bundle(bundle::read_bundle(bytes), n, m, groups)
 }
@@ -279,7 +281,7 @@ pub extern "C" fn perk_join_bundles(
     groups: &mut usize,
 ) -> u32
     ensures outcome { (result, (out.new, (length.new, groups.new))) ≡ answered size_or (join_outcome (level_at FIRST) first.now second.now out.old) (length.old, groups.old) }
-    ensures reads { result ≡ 0 → ReadJoined (level_at FIRST) first.now second.now (record { length = length.exit.now; groups = groups.new }) out.new }
+    ensures reads { result ≡ 0 → ReadJoined (level_at FIRST) first.now second.now (record { length = length.new; groups = groups.new }) out.new }
 {
     put_size(joining::join_bundles(first, second, out), length, groups)
 }

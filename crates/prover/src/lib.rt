@@ -1,4 +1,6 @@
 // The entry prove: the specification, 'CheckZero', the prover's side.
+#![tactic(auto)]
+
 ghost use Rattle.std.specs.Prelude.{◌≡◌, List, ℕ, eqb, length};
 ghost use Rattle.lists.specs.Lent.{long};
 ghost use Rattle.refusal.specs.Answer.{refusal, first_of, decided};

@@ -1,5 +1,7 @@
 // The work of constraints and values on lent slices: the polynomials and values of all rows, and the masked witness.
 // No branch and no index depends on positions, offsets, bits or numbers.
+#![tactic(auto)]
+
 ghost use Rattle.std.specs.Prelude.{◌≡◌, cond, List, ℕ, ◌+◌, ◌*◌, ◌^◌, ◌<◌, ◌≤◌, length, get_or};
 ghost use Rattle.lists.specs.Words.{put};
 ghost use Rattle.field.specs.Binary.{xor};

@@ -1,4 +1,6 @@
 // The entry verify: the specification, 'CheckZero', the verifier's side.
+#![tactic(auto)]
+
 ghost use Rattle.std.specs.Prelude.{◌≡◌, eqb, length};
 ghost use Rattle.lists.specs.Lent.{long};
 ghost use Rattle.refusal.specs.Answer.{first_of};

@@ -1,4 +1,6 @@
 // The entry write_package: for those who store proofs.
+#![tactic(auto)]
+
 ghost use Rattle.std.specs.Prelude.{◌≡◌, [], ◌∷◌, ℕ, ◌+◌, ◌*◌, ◌≤◌, ◌<◌, eqb, length};
 ghost use Rattle.lists.specs.Words.{put};
 ghost use Rattle.lists.specs.Lent.{long};

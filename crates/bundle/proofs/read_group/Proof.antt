@@ -1,4 +1,3 @@
-use Prim.Native.Nat.{◌-◌}
 use borrow.Author.Rules.{rules}
 use Rattle.bundle.proofs.Steps.{group-further}
 use Rattle.bundle.proofs.read_group.Statement.{statement}

@@ -12,7 +12,6 @@ use Rattle.joining.proofs.Mates.{begun}
 use Rattle.joining.proofs.Cursors.{First, at_size}
 use Rattle.joining.proofs.Count.{Going, going_start, Seen, seen, here, there, go-first, go-second, go_both, found-other, end-first, end-second, going_most, count-le}
 use borrow.Author.Rules.{rules}
-use borrow.Author.Tests.{not-false, not-true}
 use Rattle.joining.proofs.count_shared.Statement.{statement}
 use Rattle.joining.proofs.count_shared.Tie as tie
 

@@ -2,7 +2,7 @@
  * For hardware people: every coefficient of the constraint polynomials of key A of docs/specification.md, the values at the
  * challenge 2, and the polynomials at 2 worked out by products and sums in K. Coordinate 0 is printed; the others are zero here.
  *
- *   gcc -I../../include coefficients.c ../../target/staticlib/libperk.a -o coefficients && ./coefficients
+ *   gcc -I../../include coefficients.c ../../crates/perk/out/libperk.a -o coefficients && ./coefficients
  */
 #include <stdio.h>
 #include <string.h>

@@ -3,7 +3,7 @@
  * is read back group by group. Joined with one of the two again, it stays as it is. Then the refusals: another proof with a serial that is there
  * already, another key, and an output that is one byte too short. It ends with 1 where something is not as stated.
  *
- *   gcc -I../../include join_bundles.c ../../target/staticlib/libperk.a -o join_bundles
+ *   gcc -I../../include join_bundles.c ../../crates/perk/out/libperk.a -o join_bundles
  *   ./join_bundles
  */
 #include <stdio.h>

@@ -3,7 +3,7 @@
  * hand is written there, and a longer one to memory of exactly its length. What is refused is told before memory is taken or a file is made, and
  * ends the program with 1.
  *
- *   gcc -I../../include look_before_join.c ../../target/staticlib/libperk.a -o look_before_join
+ *   gcc -I../../include look_before_join.c ../../crates/perk/out/libperk.a -o look_before_join
  *   ./look_before_join FIRST SECOND JOINED
  */
 #include <stdio.h>

@@ -2,7 +2,7 @@
  * For card makers: proves key A of docs/specification.md with the positions given, and writes the package to standard output,
  * with the serial 7 or another one. A card that cannot prove says what was wrong.
  *
- *   gcc -I../../include make_proof.c ../../target/staticlib/libperk.a -o make_proof
+ *   gcc -I../../include make_proof.c ../../crates/perk/out/libperk.a -o make_proof
  *   ./make_proof 0 1 > key_a.package         ./make_proof 1 0        (refused 8)
  *   ./make_proof 0 1 65536 > long.package    (a serial of four bytes)
  */

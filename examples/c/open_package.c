@@ -2,7 +2,7 @@
  * For records rooms: opens the package on standard input and prints n, m, the serial and each field's content, or says why
  * the package is turned down.
  *
- *   gcc -I../../include open_package.c ../../target/staticlib/libperk.a -o open_package
+ *   gcc -I../../include open_package.c ../../crates/perk/out/libperk.a -o open_package
  *   head -c 56 ../../vectors/key_a.check | ./open_package
  */
 #include <stdio.h>

@@ -5,7 +5,7 @@
  *
  * The time of a look tells the index of the offender. A driver that must hide the positions leaves the look out: perk_prove refuses the same lists.
  *
- *   gcc -I../../include quick_look.c ../../target/staticlib/libperk.a -o quick_look
+ *   gcc -I../../include quick_look.c ../../crates/perk/out/libperk.a -o quick_look
  *   ./quick_look
  */
 #include <stdio.h>

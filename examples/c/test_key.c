@@ -3,7 +3,7 @@
  * which the first is 1024 1 3 7 and the second is given. Prints the cleared form and the rank, and what the library does with such a key.
  * Exit status 0 only where the rows do not lean.
  *
- *   gcc -I../../include test_key.c ../../target/staticlib/libperk.a -o test_key
+ *   gcc -I../../include test_key.c ../../crates/perk/out/libperk.a -o test_key
  *   ./test_key 0 2 5 1       (rank 2: no row leans)
  *   ./test_key 5 2 6 14      (rank 1: the second row is 2 times the first, since 1024 times 2 is 5; refused 15 from then on)
  */

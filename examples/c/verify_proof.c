@@ -2,7 +2,7 @@
  * For checking offices: verifies the proof of the package on standard input for key A of docs/specification.md, with the
  * office's own share of the correlations. Exit status 0 only where the proof is accepted.
  *
- *   gcc -I../../include verify_proof.c ../../target/staticlib/libperk.a -o verify_proof
+ *   gcc -I../../include verify_proof.c ../../crates/perk/out/libperk.a -o verify_proof
  *   head -c 56 ../../vectors/key_a.check | ./verify_proof
  */
 #include <stdio.h>

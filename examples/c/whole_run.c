@@ -2,7 +2,7 @@
  * A whole run at n = 64 and m = 27, with masks: makes a key with a target that a random order solves, makes honest correlations,
  * proves, writes the package and the check file, checks it, changes a byte, and reads fields back.
  *
- *   gcc -I../../include whole_run.c ../../target/staticlib/libperk.a -o whole_run
+ *   gcc -I../../include whole_run.c ../../crates/perk/out/libperk.a -o whole_run
  *   ./whole_run run.check && ../../bin/perkcheck < run.check
  *
  * A host takes its random numbers from the operating system, and the challenge and the weights after the prover's commitment.

@@ -2,7 +2,7 @@
  * For card makers and records rooms: proves key A of docs/specification.md, or the same key with a target, writes the package with the serial
  * that is given, and reads it back field by field. Then the output that is lent is one byte too short.
  *
- *   gcc -I../../include write_package.c ../../target/staticlib/libperk.a -o write_package
+ *   gcc -I../../include write_package.c ../../crates/perk/out/libperk.a -o write_package
  *   ./write_package 7            (key A: 56 bytes)
  *   ./write_package 65536 5      (the target 5, so that there is a field 04, and a serial of four bytes: 63 bytes)
  */

@@ -2,7 +2,7 @@
  * For card makers: what a card hears of one position. The key has n = 50, so that d is 6 and the positions 50 to 63 are spare codes,
  * and every order of its columns solves it. The order is 0 to 49 with one position changed.
  *
- *   gcc -I../../include wrong_position.c ../../target/staticlib/libperk.a -o wrong_position
+ *   gcc -I../../include wrong_position.c ../../crates/perk/out/libperk.a -o wrong_position
  *   ./wrong_position 7 7      (done)           ./wrong_position 7 53     (refused 16: no column)
  *   ./wrong_position 7 8      (refused 8)      ./wrong_position 7 64     (refused 7: too large)
  */

@@ -1,5 +1,5 @@
 //! Links the static library libperk.a from the directory in `PERK_LIB_DIR`,
-//! by default the one that `rt staticlib perk` writes to. A relative directory
+//! by default the one that `bin/build perk` writes to. A relative directory
 //! is taken from the package.
 
 use std::env;
@@ -7,7 +7,7 @@ use std::path::PathBuf;
 use std::process::exit;
 
 /// The default directory.
-const DEFAULT: &str = "../../target/staticlib";
+const DEFAULT: &str = "../../crates/perk/out";
 
 fn main() {
     let package = PathBuf::from(env::var_os("CARGO_MANIFEST_DIR").expect("cargo sets it"));
@@ -18,7 +18,7 @@ fn main() {
     println!("cargo:rerun-if-changed={}", archive.display());
     if !archive.is_file() {
         eprintln!(
-            "{} is missing: run `rt staticlib perk`, or set PERK_LIB_DIR to the directory of libperk.a",
+            "{} is missing: run `bin/build perk`, or set PERK_LIB_DIR to the directory of libperk.a",
             archive.display()
         );
         exit(1);

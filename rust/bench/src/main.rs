@@ -55,7 +55,7 @@ fn time(
     let measured = measure::measured(rows, counts);
     table::entries(&measured);
     if !perkcheck.is_file() {
-        println!("The program perkcheck is missing: `rt check perkcheck` makes it.\n");
+        println!("The program perkcheck is missing: `bin/build perkcheck` makes it.\n");
     }
     table::shares(&measured);
     table::writing(cases::writings(inputs));

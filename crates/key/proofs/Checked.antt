@@ -1,14 +1,14 @@
 -- The rows of an entry that takes a key: sizes, and then refusals 3, 4, 15, 5 to 7, and 16.
+use Rattle.std.specs.Prelude.{Err}
+use Rattle.refusal.specs.declared.Refusal.TheVariants.{SliceLength, KeyElement, Bit, Coordinate, Position, DependentRows}
 use mathlib.Core.Path.{◌≡◌, sym, ap, ◌∙◌}
 use mathlib.Core.Bool.{Bool, true, false, not}
 use mathlib.Core.List.{List, [], ◌∷◌, ◌++◌}
 use Prim.Native.Nat.{ℕ}
 use borrow.Author.Tests.{not-false, eq-eqb, ne_eqb}
 use lib.Dec.{eqb}
-use Rattle.refusal.specs.Answer.{refusal, first_of}
-use Rattle.refusal.specs.declared.Answer.{Answer}
+use Rattle.refusal.specs.Answer.{first_of, Answer, Done}
 use Rattle.refusal.specs.declared.Refusal.{Refusal}
-use Rattle.refusal.specs.declared.Answer.TheVariants.{Done, Refused}
 use Rattle.refusal.proofs.Answers.{none, after-done, after-refused, pass, stop}
 use Rattle.field.specs.declared.Level.{Level}
 use Rattle.elimination.specs.Rank.{short}
@@ -47,18 +47,18 @@ module _ (l : Level) (key : Key) where
     -- and the other way round
     pub checked-done : Checked slices lent bits coordinates positions → first_of (sizes l key ++ checks l key slices lent bits coordinates positions) ≡ Done
     checked-done c = after-done (sizes l key) (checks l key slices lent bits coordinates positions) (sizes-done l key c.is-sized)
-        ∙ (λ t. first_of ((not (c.slices-fine t), 3) ∷ (not (c.elements-fine t), 4) ∷ (c.rows-fine t, 15) ∷ (not (c.bits-fine t), 5) ∷ (not (c.coordinates-fine t), 6) ∷ (c.positions-fine t, 7) ∷ []))
+        ∙ (λ t. first_of ((not (c.slices-fine t), SliceLength) ∷ (not (c.elements-fine t), KeyElement) ∷ (c.rows-fine t, DependentRows) ∷ (not (c.bits-fine t), Bit) ∷ (not (c.coordinates-fine t), Coordinate) ∷ (c.positions-fine t, Position) ∷ []))
 
     -- past the sizes, the lengths, then the key and then the material decide, whatever rows follow; the lengths are told by the test of a number k
-    module _ (others : List (Bool × ℕ)) (h : first_of (sizes l key) ≡ Done) (k : ℕ) (e : eqb k 0 ≡ slices) where
-      pub told-length : (k ≡ 0 → ⊥) → refusal 3 ≡ first_of (sizes l key ++ checks l key slices lent bits coordinates positions ++ others)
-      told-length f = sym (after-done (sizes l key) (checks l key slices lent bits coordinates positions ++ others) h ∙ stop 3 (contents l key lent ++ (material bits coordinates positions ++ others)) (ap not (sym e ∙ ne_eqb k 0 f)))
+    module _ (others : List (Bool × Refusal)) (h : first_of (sizes l key) ≡ Done) (k : ℕ) (e : eqb k 0 ≡ slices) where
+      pub told-length : (k ≡ 0 → ⊥) → (Err SliceLength) ≡ first_of (sizes l key ++ checks l key slices lent bits coordinates positions ++ others)
+      told-length f = sym (after-done (sizes l key) (checks l key slices lent bits coordinates positions ++ others) h ∙ stop SliceLength (contents l key lent ++ (material bits coordinates positions ++ others)) (ap not (sym e ∙ ne_eqb k 0 f)))
 
       module _ (z : k ≡ 0) where
         past : first_of (contents l key lent ++ (material bits coordinates positions ++ others)) ≡ first_of (sizes l key ++ checks l key slices lent bits coordinates positions ++ others)
-        past = sym (after-done (sizes l key) (checks l key slices lent bits coordinates positions ++ others) h ∙ pass 3 (contents l key lent ++ (material bits coordinates positions ++ others)) (ap not (sym e ∙ eq-eqb k 0 z)))
+        past = sym (after-done (sizes l key) (checks l key slices lent bits coordinates positions ++ others) h ∙ pass SliceLength (contents l key lent ++ (material bits coordinates positions ++ others)) (ap not (sym e ∙ eq-eqb k 0 z)))
 
-        pub told-key : {r : Answer} {q : Refusal} → r ≡ first_of (contents l key lent) → r ≡ Refused q → r ≡ first_of (sizes l key ++ checks l key slices lent bits coordinates positions ++ others)
+        pub told-key : {r : Answer} {q : Refusal} → r ≡ first_of (contents l key lent) → r ≡ Err q → r ≡ first_of (sizes l key ++ checks l key slices lent bits coordinates positions ++ others)
         told-key f g = after-refused (contents l key lent) (material bits coordinates positions ++ others) f g ∙ past
 
         past-key : first_of (contents l key lent) ≡ Done → first_of (material bits coordinates positions ++ others) ≡ first_of (sizes l key ++ checks l key slices lent bits coordinates positions ++ others)

@@ -1,4 +1,5 @@
 -- What holds of a key whose sizes are not refused, and of d.
+use Rattle.refusal.specs.declared.Refusal.TheVariants.{SizeN, SizeM}
 use mathlib.Core.Path.{◌≡◌, ap}
 use Prim.Native.Nat.{ℕ, ◌+◌, ◌-◌, ◌*◌, ◌^◌, ◌≤◌, ◌<◌}
 use native.Mathlib.Decide.{dec_lt}
@@ -8,8 +9,7 @@ use mathlib.Core.List.{[], ◌∷◌}
 use borrow.Author.Tests.{le-ltb, lt-leb, ne_eqb, ltb-false, leb-false, eqb-false}
 use lib.Count.{count_leading_zeros, leading_length}
 use lib.Pow.{pow_mono}
-use Rattle.refusal.specs.Answer.{first_of}
-use Rattle.refusal.specs.declared.Answer.TheVariants.{Done}
+use Rattle.refusal.specs.Answer.{first_of, Done}
 use Rattle.refusal.proofs.Answers.{None}
 use Rattle.field.specs.declared.Level.{Level}
 use Rattle.field.specs.Level.{FIRST, level_at}
@@ -26,7 +26,7 @@ sized l key e = record {
 }
 
 pub sizes-done : (l : Level) (key : Key) → Sized l key → first_of (sizes l key) ≡ Done
-sizes-done l key s = λ t. first_of ((le-ltb key.n 2 s.two t, 1) ∷ (le-ltb l.most key.n s.most t, 1) ∷ (ne_eqb key.m 0 (omega (arith, s.some)) t, 2) ∷ (lt-leb key.n key.m s.fewer t, 2) ∷ [])
+sizes-done l key s = λ t. first_of ((le-ltb key.n 2 s.two t, SizeN) ∷ (le-ltb l.most key.n s.most t, SizeN) ∷ (ne_eqb key.m 0 (omega (arith, s.some)) t, SizeM) ∷ (lt-leb key.n key.m s.fewer t, SizeM) ∷ [])
 
 -- H fits the memory in which its rows are tested
 pub first-matrix : (key : Key) → Sized (level_at FIRST) key → key.m * key.n ≤ 4032

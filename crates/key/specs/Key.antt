@@ -1,11 +1,12 @@
 -- The key: its sizes, d, when it is well formed, and what positions are.
+use Rattle.refusal.specs.declared.Refusal.{Refusal}
+use Rattle.refusal.specs.declared.Refusal.TheVariants.{SizeN, SizeM, SliceLength, KeyElement, Bit, Coordinate, Position, DependentRows, SpareCode}
 use Rattle.std.specs.Prelude.{◌≡◌, ◌↔◌, Bool, true, false, not, cond, ◌&&◌, List, [], ◌∷◌, ◌++◌, ℕ, zero, suc, ◌+◌, ◌-◌, ◌*◌, ◌^◌, ◌≤◌, ◌<◌, leb, ltb, eqb}
 use Rattle.std.specs.Int.Count.{count_leading_zeros}
 use Rattle.field.specs.declared.Level.{Level}
 use Rattle.field.specs.Word.{within}
 use Rattle.lists.specs.Words.{all}
-use Rattle.refusal.specs.Answer.{first_of}
-use Rattle.refusal.specs.declared.Answer.TheVariants.{Done}
+use Rattle.refusal.specs.Answer.{first_of, Done}
 use Rattle.elimination.specs.Rank.{short, Leaning}
 use Rattle.key.specs.declared.Key.{Key}
 use Rattle.key.specs.declared.Lengths.{Lengths}
@@ -44,12 +45,12 @@ lengths l key = record {
 }
 
 -- place 'sizes': "n below 2 or above 64", 64 being the level's
-abbrev pub size_n : Level → ℕ → List (Bool × ℕ)
-size_n l n = (ltb n 2, 1) ∷ (ltb l.most n, 1) ∷ []
+abbrev pub size_n : Level → ℕ → List (Bool × Refusal)
+size_n l n = (ltb n 2, SizeN) ∷ (ltb l.most n, SizeN) ∷ []
 
 -- and "m is 0, or at least n"
-abbrev pub sizes : Level → Key → List (Bool × ℕ)
-sizes l key = size_n l key.n ++ ((eqb key.m 0, 2) ∷ (leb key.n key.m, 2) ∷ [])
+abbrev pub sizes : Level → Key → List (Bool × Refusal)
+sizes l key = size_n l key.n ++ ((eqb key.m 0, SizeM) ∷ (leb key.n key.m, SizeM) ∷ [])
 
 -- "n is 2 to 64 and m is 1 to n - 1": what holds where none of them applies
 pub record Sized (l : Level) (key : Key) : Type 0 where
@@ -126,27 +127,27 @@ is_too_large TooLarge = true
 
 -- place 'key': 4 "an element of H or x is above 2047", or of y, then 15 "when some coefficients from F, not all zero, combine the rows of H to
 -- zero", told by the rank: "so a well-formed key now has rows that don't lean on each other"
-abbrev pub contents : Level → Key → KeySlices → List (Bool × ℕ)
-contents l key lent = (not (key_within l lent), 4) ∷ (short l key.n key.m lent.h, 15) ∷ []
+abbrev pub contents : Level → Key → KeySlices → List (Bool × Refusal)
+contents l key lent = (not (key_within l lent), KeyElement) ∷ (short l key.n key.m lent.h, DependentRows) ∷ []
 
 -- place 'material', a row for each number; of words and bytes whether they are in order, of positions what they are, Column where an entry takes
 -- none: 5 "a byte of u or t is above 1", 6 "a coordinate of an element of K is above 2047", 7 "a position is 2^d or more". "Constraints still takes
 -- spare codes": no row applies to them
-abbrev pub material : (bits coordinates : Bool) (positions : Code) → List (Bool × ℕ)
-material bits coordinates positions = (not bits, 5) ∷ (not coordinates, 6) ∷ (is_too_large positions, 7) ∷ []
+abbrev pub material : (bits coordinates : Bool) (positions : Code) → List (Bool × Refusal)
+material bits coordinates positions = (not bits, Bit) ∷ (not coordinates, Coordinate) ∷ (is_too_large positions, Position) ∷ []
 
 -- and place 'slices' before them: 3 "a lent slice isn't of its stated length"
-abbrev pub checks : (l : Level) (key : Key) (slices : Bool) (lent : KeySlices) (bits coordinates : Bool) (positions : Code) → List (Bool × ℕ)
-checks l key slices lent bits coordinates positions = (not slices, 3) ∷ (contents l key lent ++ material bits coordinates positions)
+abbrev pub checks : (l : Level) (key : Key) (slices : Bool) (lent : KeySlices) (bits coordinates : Bool) (positions : Code) → List (Bool × Refusal)
+checks l key slices lent bits coordinates positions = (not slices, SliceLength) ∷ (contents l key lent ++ material bits coordinates positions)
 
 -- refusals 1 to 4 of an entry that takes a key, in order
-abbrev pub rows_to4 : (l : Level) (key : Key) (slices : Bool) (lent : KeySlices) → List (Bool × ℕ)
-rows_to4 l key slices lent = sizes l key ++ ((not slices, 3) ∷ (not (key_within l lent), 4) ∷ [])
+abbrev pub rows_to4 : (l : Level) (key : Key) (slices : Bool) (lent : KeySlices) → List (Bool × Refusal)
+rows_to4 l key slices lent = sizes l key ++ ((not slices, SliceLength) ∷ (not (key_within l lent), KeyElement) ∷ [])
 
 -- past them an entry answers 15 exactly when the rows of H lean on each other. Each function says how its answer tells it.
 pub record Leans (l : Level) (key : Key) (slices : Bool) (lent : KeySlices) (IsFifteen : Type 0) : Type 0 where
   pub fifteen : IsFifteen ↔ ((first_of (rows_to4 l key slices lent) ≡ Done) × Leaning l key.n key.m lent.h)
 
 -- 16 "when prove is lent a spare code and none is too large, after 7"
-abbrev pub spare_row : (positions : Code) → List (Bool × ℕ)
-spare_row positions = (is_spare positions, 16) ∷ []
+abbrev pub spare_row : (positions : Code) → List (Bool × Refusal)
+spare_row positions = (is_spare positions, SpareCode) ∷ []

@@ -83,17 +83,14 @@ impl Key {
     {
         let n = self.n;
         let m = self.m;
-        let size = size_n(n, level);
-        if let Answer::Refused(_) = size {
-            return size;
-        }
+        size_n(n, level)?;
         if m == 0 {
-            return Answer::Refused(Refusal::SIZE_M);
+            return Err(Refusal::SizeM);
         }
         if n <= m {
-            return Answer::Refused(Refusal::SIZE_M);
+            return Err(Refusal::SizeM);
         }
-        Answer::Done
+        Ok(())
     }
 
     // The first of refusals 4 and 15 that applies to the key's slices. The rows of H are tested in memory of the first level's size.
@@ -104,12 +101,12 @@ impl Key {
         let n = self.n;
         let m = self.m;
         if excess(h, x, y, level) != 0 {
-            return Answer::Refused(Refusal::KEY_ELEMENT);
+            return Err(Refusal::KeyElement);
         }
         if elimination::short(h, n, m, level) {
-            Answer::Refused(Refusal::DEPENDENT_ROWS)
+            Err(Refusal::DependentRows)
         } else {
-            Answer::Done
+            Ok(())
         }
     }
 
@@ -123,11 +120,9 @@ impl Key {
         let power = 1usize << self.degree();
         let mut no_column: u16 = 0;
         let mut no_code: u16 = 0;
-        let mut i: usize = 0;
-        while i < positions.len() {
-            no_column = no_column | reach(positions[i], n);
-            no_code = no_code | reach(positions[i], power);
-            i += 1;
+        for &position in positions {
+            no_column |= reach(position, n);
+            no_code |= reach(position, power);
         }
         ((no_column >> 8) + (no_code >> 8)) as u8
     }
@@ -138,13 +133,13 @@ pub fn size_n(n: usize, level: usize) -> Answer
     ensures { result ≡ first_of (size_n (level_at level) n) }
 {
     if n < 2 {
-        return Answer::Refused(Refusal::SIZE_N);
+        return Err(Refusal::SizeN);
     }
     let most = Level::of(level).most;
     if most < n {
-        return Answer::Refused(Refusal::SIZE_N);
+        return Err(Refusal::SizeN);
     }
-    Answer::Done
+    Ok(())
 }
 
 // The position and what the limit lacks to 256: it has a ninth digit exactly when the position is the limit or more.
@@ -152,7 +147,7 @@ fn reach(position: u8, limit: usize) -> u16
     requires { limit ≤ 256 }
     ensures { (result < 512) × (ltb result 256 ≡ ltb position limit) }
 {
-    position as u16 + (256 - limit) as u16
+    u16::from(position) + (256 - limit) as u16
 }
 
 impl Code {
@@ -182,10 +177,8 @@ pub fn over(s: &[u8], digits: usize) -> u8
     ensures { eqb result 0 ≡ below digits s.now }
 {
     let mut any: u8 = 0;
-    let mut i: usize = 0;
-    while i < s.len() {
-        any = any | s[i];
-        i += 1;
+    for &byte in s {
+        any |= byte;
     }
     any >> digits
 }
@@ -203,14 +196,14 @@ pub fn material(bits: u8, coordinates: u16, positions: u8) -> Answer
     ensures { result ≡ first_of (material (eqb bits 0) (eqb coordinates 0) (code_at positions) ++ spare_row (code_at positions)) }
 {
     if bits != 0 {
-        return Answer::Refused(Refusal::BIT);
+        return Err(Refusal::Bit);
     }
     if coordinates != 0 {
-        return Answer::Refused(Refusal::COORDINATE);
+        return Err(Refusal::Coordinate);
     }
     match Code::of(positions) {
-        Code::TooLarge => Answer::Refused(Refusal::POSITION),
-        Code::Spare => Answer::Refused(Refusal::SPARE_CODE),
-        Code::Column => Answer::Done,
+        Code::TooLarge => Err(Refusal::Position),
+        Code::Spare => Err(Refusal::SpareCode),
+        Code::Column => Ok(()),
     }
 }

@@ -1,22 +1,22 @@
 -- What verify answers: a refusal by the rows of the table, or whether its equation holds.
-use Rattle.std.specs.Prelude.{Bool, true, false, ℕ}
-use Rattle.refusal.specs.declared.Answer.{Answer}
-use Rattle.refusal.specs.declared.Answer.TheVariants.{Done, Refused}
+use Rattle.std.specs.Prelude.{Bool, true, false, ℕ, Result, Ok, Err}
+use Rattle.refusal.specs.declared.Refusal.{Refusal}
 use Rattle.refusal.specs.declared.Verdict.{Verdict}
-use Rattle.refusal.specs.declared.Verdict.TheVariants.{Accepted, Rejected, Refused as Turned}
+use Rattle.refusal.specs.declared.Verdict.TheVariants.{Accepted, Rejected}
+use Rattle.refusal.specs.Answer.{number, Answer}
 
--- the number of each verdict: "Rejected is no refusal", and its number is none of theirs
-abbrev pub verdict_number : Verdict → ℕ
-verdict_number Accepted = 0
-verdict_number Rejected = 255
-verdict_number (Turned r) = r.number
+-- the number of each answer: "Rejected is no refusal", and its number is none of theirs
+abbrev pub verdict_number : Result Verdict Refusal → ℕ
+verdict_number (Ok Accepted) = 0
+verdict_number (Ok Rejected) = 255
+verdict_number (Err r) = number r
 
--- the refusal with this number
-abbrev pub turned : ℕ → Verdict
-turned k = Turned (record { number = k })
+-- "answers Accepted or Rejected" by the equation
+abbrev pub verdict : Bool → Verdict
+verdict true = Accepted
+verdict false = Rejected
 
--- where no row applies, "answers Accepted or Rejected" by the equation
-abbrev pub judged : Answer → Bool → Verdict
-judged Done true = Accepted
-judged Done false = Rejected
-judged (Refused r) holds = Turned r
+-- where no row applies, by the equation
+abbrev pub judged : Answer → Bool → Result Verdict Refusal
+judged (Ok _) holds = Ok (verdict holds)
+judged (Err r) holds = Err r

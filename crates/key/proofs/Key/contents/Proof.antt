@@ -1,3 +1,4 @@
+use Rattle.refusal.specs.declared.Refusal.TheVariants.{KeyElement, DependentRows}
 use mathlib.Core.Path.{◌≡◌, sym, ap, ◌∙◌}
 use mathlib.Core.Bool.{Bool, true, false, not}
 use mathlib.Core.List.{[], ◌∷◌}
@@ -22,7 +23,7 @@ excess-requires c κs = search rules
 returns-then-excess-ne0 : tie.Need-returns-then-excess-ne0
 returns-then-excess-ne0 c =
     let a = c.args in
-    sym (stop 4 ((short (level_at a.level) a.self.n a.self.m a.h.now, 15) ∷ []) (ap not (sym c.excess.ensures ∙ ne_eqb c.excess.result 0 c.if-excess-ne0.true)))
+    sym (stop KeyElement ((short (level_at a.level) a.self.n a.self.m a.h.now, DependentRows) ∷ []) (ap not (sym c.excess.ensures ∙ ne_eqb c.excess.result 0 c.if-excess-ne0.true)))
 
 -- past the elements' row
 within : (c : tie.Else-excess-ne0) → let a = c.args in key_within (level_at a.level) (key_slices a.h.now a.x.now a.y.now) ≡ true
@@ -35,8 +36,8 @@ short-requires c κs =
     (c.requires.1, c.requires.2, omega (arith, c.requires.0.fewer), c.requires.0.most, λ k. omega (arith, w.0 k, (bounded a.level).limit))
 
 -- past that row, the rank decides
-by_rank : (l : Level) (key : Key) (lent : KeySlices) {b : Bool} → key_within l lent ≡ true → b ≡ short l key.n key.m lent.h → first_of ((b, 15) ∷ []) ≡ first_of (contents l key lent)
-by_rank l key lent e f = λ t. first_of ((not (sym e t), 4) ∷ (f t, 15) ∷ [])
+by_rank : (l : Level) (key : Key) (lent : KeySlices) {b : Bool} → key_within l lent ≡ true → b ≡ short l key.n key.m lent.h → first_of ((b, DependentRows) ∷ []) ≡ first_of (contents l key lent)
+by_rank l key lent e f = λ t. first_of ((not (sym e t), KeyElement) ∷ (f t, DependentRows) ∷ [])
 
 returns-then-short : tie.Need-returns-then-short
 returns-then-short c =

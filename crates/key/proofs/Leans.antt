@@ -7,7 +7,7 @@ use mathlib.Core.Bool.{Bool, true, false}
 use mathlib.Core.List.{List, [], ◌∷◌, ◌++◌}
 use Prim.Native.Nat.{ℕ}
 use native.Mathlib.Omega.{arith}
-use Rattle.refusal.specs.Answer.{number, number_of, first_of, Answer, Done}
+use Rattle.refusal.specs.Answer.{number, first_of, Answer, Done}
 use Rattle.refusal.proofs.Answers.{stop, after-done, after-refused, not_both}
 use Rattle.field.specs.declared.Level.{Level}
 use Rattle.field.specs.Level.{level_at}

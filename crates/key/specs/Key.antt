@@ -9,6 +9,7 @@ use Rattle.lists.specs.Words.{all}
 use Rattle.refusal.specs.Answer.{first_of, Done}
 use Rattle.elimination.specs.Rank.{short, Leaning}
 use Rattle.key.specs.declared.Key.{Key}
+use Rattle.key.specs.declared.Lent.{Lent}
 use Rattle.key.specs.declared.Lengths.{Lengths}
 use Rattle.key.specs.declared.Code.{Code}
 use Rattle.key.specs.declared.Code.TheVariants.{Column, Spare, TooLarge}
@@ -72,6 +73,10 @@ pub record KeySlices : Type 0 where
 
 abbrev pub key_slices : (h x y : List ℕ) → KeySlices
 key_slices h x y = record { h = h; x = x; y = y }
+
+-- those that are lent with a key
+abbrev pub slices_of : Lent → KeySlices
+slices_of lent = key_slices lent.h.now lent.x.now lent.y.now
 
 -- with their lengths
 abbrev pub key_lent : Lengths → KeySlices → List (List ℕ × ℕ)

@@ -4,16 +4,25 @@
 ghost use Rattle.std.specs.Prelude.{◌≡◌, ◌++◌, ◌+◌, ◌≤◌, ◌<◌, ltb, eqb, length};
 ghost use Rattle.refusal.specs.Answer.{first_of};
 ghost use Rattle.field.specs.Level.{level_at};
-ghost use Rattle.key.specs.Key.{degree, lengths, size_n, sizes, Sized, below, codes_of, code_number, code_at, key_slices, key_within, contents, material, spare_row};
+ghost use Rattle.key.specs.Key.{degree, lengths, size_n, sizes, Sized, below, codes_of, code_number, code_at, slices_of, key_within, contents, material, spare_row};
 
 use field::Level;
 use refusal::{Answer, Refusal};
 
-// The sizes of a key; H, x and y are lent beside it.
+// The sizes of a key.
 #[derive(Clone, Copy)]
 pub struct Key {
     pub n: usize,
     pub m: usize,
+}
+
+// A key as it is lent: its sizes, and H, x and y.
+#[derive(Clone, Copy)]
+pub struct Lent<'a> {
+    pub key: Key,
+    pub h: &'a [u16],
+    pub x: &'a [u16],
+    pub y: &'a [u16],
 }
 
 // What a position is: a column, below n; a spare code, from n to 2^d - 1; or too large.
@@ -93,23 +102,6 @@ impl Key {
         Ok(())
     }
 
-    // The first of refusals 4 and 15 that applies to the key's slices. The rows of H are tested in memory of the first level's size.
-    pub fn contents(self, h: &[u16], x: &[u16], y: &[u16], level: usize) -> Answer
-        requires { Sized (level_at level) self × (length h.now ≡ (lengths (level_at level) self).matrix) × ((lengths (level_at level) self).matrix ≤ 4032) }
-        ensures { result ≡ first_of (contents (level_at level) self (key_slices h.now x.now y.now)) }
-    {
-        let n = self.n;
-        let m = self.m;
-        if excess(h, x, y, level) != 0 {
-            return Err(Refusal::KeyElement);
-        }
-        if elimination::short(h, n, m, level) {
-            Err(Refusal::DependentRows)
-        } else {
-            Ok(())
-        }
-    }
-
     // The number of the positions' case, the highest among theirs. The ninth digits of all are joined, so that no branch and no index depends
     // on a position.
     pub fn codes(self, positions: &[u8]) -> u8
@@ -125,6 +117,30 @@ impl Key {
             no_code |= reach(position, power);
         }
         ((no_column >> 8) + (no_code >> 8)) as u8
+    }
+}
+
+impl Lent<'_> {
+    // Zero exactly when no element is above the limit.
+    fn excess(&self, level: usize) -> u16
+        ensures { eqb result 0 ≡ key_within (level_at level) (slices_of self.now) }
+    {
+        field::excess(self.h, level) | (field::excess(self.x, level) | field::excess(self.y, level))
+    }
+
+    // The first of refusals 4 and 15 that applies. The rows of H are tested in memory of the first level's size.
+    pub fn contents(&self, level: usize) -> Answer
+        requires { Sized (level_at level) self.now.key × (length self.now.h.now ≡ (lengths (level_at level) self.now.key).matrix) × ((lengths (level_at level) self.now.key).matrix ≤ 4032) }
+        ensures { result ≡ first_of (contents (level_at level) self.now.key (slices_of self.now)) }
+    {
+        if self.excess(level) != 0 {
+            return Err(Refusal::KeyElement);
+        }
+        if elimination::short(self.h, self.key.n, self.key.m, level) {
+            Err(Refusal::DependentRows)
+        } else {
+            Ok(())
+        }
     }
 }
 
@@ -181,13 +197,6 @@ pub fn over(s: &[u8], digits: usize) -> u8
         any |= byte;
     }
     any >> digits
-}
-
-// Zero exactly when no element of the key's slices is above the limit.
-fn excess(h: &[u16], x: &[u16], y: &[u16], level: usize) -> u16
-    ensures { eqb result 0 ≡ key_within (level_at level) (key_slices h.now x.now y.now) }
-{
-    field::excess(h, level) | (field::excess(x, level) | field::excess(y, level))
 }
 
 // The first of refusals 5 to 7 and 16 that applies. Each of 5 and 6 is told by a number that is zero where it does not, 7 and 16 by the number of

@@ -1,4 +1,4 @@
-use Rattle.std.proofs.Common.{◌^◌, ltb, length}
+use Rattle.std.proofs.Common.{◌^◌, ltb}
 use mathlib.Core.Bool.{◌&&◌}
 use mathlib.Core.Path.{sym, ap, ◌∙◌}
 use native.Mathlib.Omega.{arith}

@@ -6,9 +6,7 @@ use Rattle.key.proofs.Sized.{degree-lt, degree-some}
 use Prim.Native.Nat.{ℕ, ◌+◌, ◌-◌, ◌*◌, ◌≤◌}
 use mathlib.Core.Path.{sym, ap}
 use native.Mathlib.Omega.{arith}
-use borrow.Author.Rules.{rules}
-use Rattle.key.proofs.Key.lengths.Statement.{statement}
-use Rattle.key.proofs.Key.lengths.Tie as tie
+use Rattle.key.proofs.Key.lengths.Goals as goal
 
 -- bounds of the numbers, and of their products
 record Known (n m d w : ℕ) : Type 0 where
@@ -45,7 +43,7 @@ small {n} {m} {d} k =
       proof = mul-le-mul k.w_le k.d-le;
     }
 
-known : (c : tie.After-of-w) → let k = c.args.self in Known k.n k.m c.degree-d.result c.of-w.result.coordinates
+known : (c : goal.After-of-w) → let k = c.args.self in Known k.n k.m c.degree-d.result c.of-w.result.coordinates
 known c =
     let a = c.args in
     let b = bounded a.level in
@@ -58,65 +56,43 @@ known c =
       w_le = subst (λ (l : Level). l.coordinates ≤ 32) (sym c.of-w.ensures) (omega (arith, b.narrow));
     }
 
-degree-d-requires : tie.Need-degree-d-requires
-degree-d-requires c κs = omega (arith, c.requires.two)
+pub degree-d-requires : goal.degree-d-requires
+degree-d-requires c = omega (arith, c.requires.two)
 
-of-w-requires : tie.Need-of-w-requires
-of-w-requires c κs = search rules
-
-overflow_mul-bits : tie.Need-overflow_mul-bits
+pub overflow_mul-bits : goal.overflow_mul-bits
 overflow_mul-bits c = record { fits = omega (arith, (small (known c)).bits) }
 
-overflow_add-size : tie.Need-overflow_add-size
+pub overflow_add-size : goal.overflow_add-size
 overflow_add-size c = omega (arith, (known c).n-le, (known c).m-le)
 
-overflow_mul-result : tie.Need-overflow_mul-result
+pub overflow_mul-result : goal.overflow_mul-result
 overflow_mul-result c = record { fits = omega (arith, (small (known c)).matrix) }
 
-overflow_mul-result-2 : tie.Need-overflow_mul-result-2
+pub overflow_mul-result-2 : goal.overflow_mul-result-2
 overflow_mul-result-2 c = record { fits = omega (arith, (small (known c)).elements) }
 
-overflow_add-result : tie.Need-overflow_add-result
+pub overflow_add-result : goal.overflow_add-result
 overflow_add-result c = omega (arith, (known c).d-le)
 
-overflow_mul-result-3 : tie.Need-overflow_mul-result-3
+pub overflow_mul-result-3 : goal.overflow_mul-result-3
 overflow_mul-result-3 c = record { fits = omega (arith, (small (known c)).coefficients) }
 
-overflow_mul-result-4 : tie.Need-overflow_mul-result-4
+pub overflow_mul-result-4 : goal.overflow_mul-result-4
 overflow_mul-result-4 c = record { fits = omega (arith, (small (known c)).polynomials) }
 
-overflow_mul-result-5 : tie.Need-overflow_mul-result-5
+pub overflow_mul-result-5 : goal.overflow_mul-result-5
 overflow_mul-result-5 c = record { fits = omega (arith, (small (known c)).values) }
 
-overflow_sub-result : tie.Need-overflow_sub-result
+pub overflow_sub-result : goal.overflow_sub-result
 overflow_sub-result c = (known c).d-some
 
-overflow_mul-result-6 : tie.Need-overflow_mul-result-6
+pub overflow_mul-result-6 : goal.overflow_mul-result-6
 overflow_mul-result-6 c = record { fits = omega (arith, (small (known c)).masks) }
 
-overflow_mul-result-7 : tie.Need-overflow_mul-result-7
+pub overflow_mul-result-7 : goal.overflow_mul-result-7
 overflow_mul-result-7 c = record { fits = omega (arith, (small (known c)).proof) }
 
-returns : tie.Need-returns
+pub returns : goal.returns
 returns c =
     let k = c.args.self in
     ap₂ (λ (d w : ℕ). record { matrix = k.m * k.n; vector = k.n; target = k.m; positions = k.n; bits = k.n * d; elements = w * (k.n * d); polynomials = w * ((k.n + k.m) * (d + 1)); values = w * (k.n + k.m); masks = w * (d - 1); proof = w * d; one = w }) c.degree-d.ensures (ap (λ (l : Level). l.coordinates) c.of-w.ensures)
-
-pub lengths_spec : {M : Type 1} → statement M
-lengths_spec =
-    tie.close
-    (tie.spec
-    degree-d-requires
-    of-w-requires
-    overflow_mul-bits
-    overflow_add-size
-    overflow_mul-result
-    overflow_mul-result-2
-    overflow_add-result
-    overflow_mul-result-3
-    overflow_mul-result-4
-    overflow_mul-result-5
-    overflow_sub-result
-    overflow_mul-result-6
-    overflow_mul-result-7
-    returns)

@@ -1,4 +1,6 @@
 -- What holds of the slices lent to sum and product where no refusal applies, and what they then hold.
+use Rattle.refusal.specs.declared.Refusal.{Refusal}
+use Rattle.refusal.specs.declared.Refusal.TheVariants.{SliceLength, Coordinate}
 use mathlib.Core.Path.{◌≡◌, sym, ◌∙◌}
 use mathlib.Core.Bool.{Bool, true, not}
 use mathlib.Core.List.{List, [], ◌∷◌}
@@ -9,8 +11,7 @@ use lib.Dec.{leb}
 use lib.ListN.{length, get_or}
 use Rattle.lists.specs.Words.{part, put}
 use Rattle.lists.proofs.Words.{part-whole, put_whole, all-at}
-use Rattle.refusal.specs.Answer.{first_of}
-use Rattle.refusal.specs.declared.Answer.TheVariants.{Done}
+use Rattle.refusal.specs.Answer.{first_of, Answer, Done}
 use Rattle.refusal.proofs.Answers.{none}
 use Rattle.field.specs.Level.{first, K}
 use Rattle.field.specs.Word.{element, words, within}
@@ -34,19 +35,19 @@ within-words s n e = part-whole first.coordinates s n ∙ sym (words-element-lt 
 
 -- the rows after each that concerns a length, and after those
 module _ (a b out : List ℕ) where
-  abbrev pub rows4 : List (Bool × ℕ)
-  rows4 = (not (within first b), 6) ∷ []
+  abbrev pub rows4 : List (Bool × Refusal)
+  rows4 = (not (within first b), Coordinate) ∷ []
 
-  abbrev pub rows3 : List (Bool × ℕ)
-  rows3 = (not (within first a), 6) ∷ rows4
+  abbrev pub rows3 : List (Bool × Refusal)
+  rows3 = (not (within first a), Coordinate) ∷ rows4
 
-  abbrev pub rows2 : List (Bool × ℕ)
-  rows2 = (not (long out), 3) ∷ rows3
+  abbrev pub rows2 : List (Bool × Refusal)
+  rows2 = (not (long out), SliceLength) ∷ rows3
 
-  abbrev pub rows1 : List (Bool × ℕ)
-  rows1 = (not (long b), 3) ∷ rows2
+  abbrev pub rows1 : List (Bool × Refusal)
+  rows1 = (not (long b), SliceLength) ∷ rows2
 
-  pub lent : first_of (rows a b out) ≡ Done → Lent a b out
+  lent : first_of (rows a b out) ≡ Done → Lent a b out
   lent e =
       let f = none (rows a b out) e in
       let la : length a ≡ first.coordinates = eqb-true (length a) first.coordinates (not-false (long a) f.0) in
@@ -58,6 +59,10 @@ module _ (a b out : List ℕ) where
         a-words = within-words a la (not-false (within first a) f.1.1.1.0);
         b-words = within-words b lb (not-false (within first b) f.1.1.1.1.0);
       }
+
+  -- past the refusals
+  pub slices : {r : Answer} → r ≡ first_of (rows a b out) → r ≡ Done → Lent a b out
+  slices e d = lent (sym e ∙ d)
 
 -- an element stored in a slice as long
 pub stored : (s : List ℕ) {t : List ℕ} (x : (K first).Carrier) → length s ≡ first.coordinates → t ≡ put 0 (words first x) s → t ≡ words first x

@@ -1,7 +1,8 @@
 -- What the entries sum and product answer and write.
+use Rattle.refusal.specs.declared.Refusal.{Refusal}
+use Rattle.refusal.specs.declared.Refusal.TheVariants.{SliceLength, Coordinate}
 use Rattle.std.specs.Prelude.{Bool, not, List, [], ◌∷◌, ℕ, eqb, length}
-use Rattle.refusal.specs.Answer.{decided}
-use Rattle.refusal.specs.declared.Answer.{Answer}
+use Rattle.refusal.specs.Answer.{decided, Answer}
 use Rattle.field.specs.Level.{first, K}
 use Rattle.field.specs.Word.{element, words, within}
 
@@ -10,13 +11,13 @@ abbrev pub long : List ℕ → Bool
 long s = eqb (length s) first.coordinates
 
 -- their refusals, in order
-abbrev pub rows : (a b out : List ℕ) → List (Bool × ℕ)
+abbrev pub rows : (a b out : List ℕ) → List (Bool × Refusal)
 rows a b out =
-    (not (long a), 3)
-    ∷ (not (long b), 3)
-    ∷ (not (long out), 3)
-    ∷ (not (within first a), 6)
-    ∷ (not (within first b), 6)
+    (not (long a), SliceLength)
+    ∷ (not (long b), SliceLength)
+    ∷ (not (long out), SliceLength)
+    ∷ (not (within first a), Coordinate)
+    ∷ (not (within first b), Coordinate)
     ∷ []
 
 -- "sum and product in K (two elements lent, the result written)"

@@ -1,5 +1,5 @@
 -- What holds of the slices lent to constraints and values where no refusal applies.
-use mathlib.Core.Path.{◌≡◌, ◌∙◌, ap}
+use mathlib.Core.Path.{◌≡◌, sym, ◌∙◌, ap}
 use mathlib.Core.Bool.{true}
 use mathlib.Core.List.{List, [], ◌∷◌}
 use Prim.Native.Nat.{ℕ, ◌+◌, ◌*◌, ◌^◌, ◌≤◌, ◌<◌}
@@ -9,8 +9,8 @@ use lib.ListN.{length, get_or}
 use lib.Pow.{pow_mono}
 use Rattle.lists.specs.Lent.{long}
 use Rattle.lists.proofs.Lent.{each_long}
-use Rattle.refusal.specs.Answer.{first_of}
-use Rattle.refusal.specs.declared.Answer.TheVariants.{Done}
+use Rattle.refusal.specs.Answer.{first_of, Answer, Done}
+use Rattle.refusal.proofs.Answers.{none}
 use Rattle.field.specs.declared.Level.{Level}
 use Rattle.field.specs.Level.{FIRST, level_at}
 use Rattle.field.proofs.Fields.{bounded, first-most, first-narrow}
@@ -20,12 +20,16 @@ use Rattle.row.specs.Lent.{LentKey, LentTarget}
 use Rattle.key.specs.declared.Key.{Key}
 use Rattle.key.specs.declared.Lengths.{Lengths}
 use Rattle.key.specs.declared.Code.TheVariants.{Column}
-use Rattle.key.specs.Key.{degree, KeySlices, lengths, Sized, key_within, below, codes_of, withins}
-use Rattle.key.proofs.Sized.{degree-fits, degree-lt}
+use Rattle.key.specs.Key.{degree, KeySlices, lengths, sizes, Sized, key_within, below, codes_of, withins}
+use Rattle.key.proofs.Sized.{sized, degree-fits, degree-lt}
 use Rattle.key.proofs.Fine.{below-lt, each_within}
 use Rattle.key.proofs.Codes.{codes_lt}
 use Rattle.key.proofs.Checked.{checked}
 use Rattle.constraints.specs.Entry.{constraints_lent, constraints_rows, values_lent, values_rows}
+
+-- the sizes of a key past their refusals
+pub sizes-passed : (key : Key) {r : Answer} → r ≡ first_of (sizes (level_at FIRST) key) → r ≡ Done → Sized (level_at FIRST) key
+sizes-passed key e d = sized (level_at FIRST) key (none (sizes (level_at FIRST) key) (sym e ∙ d))
 
 -- sizes that are not refused, and the room that the work takes
 pub record Room (l : Level) (n : ℕ) : Type 0 where

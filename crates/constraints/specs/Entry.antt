@@ -1,8 +1,8 @@
 -- What the entries constraints and values answer and write.
+use Rattle.refusal.specs.declared.Refusal.{Refusal}
 use Rattle.std.specs.Prelude.{Bool, List, [], ◌∷◌, ◌++◌, ℕ}
 use Rattle.lists.specs.Lent.{long}
-use Rattle.refusal.specs.Answer.{decided}
-use Rattle.refusal.specs.declared.Answer.{Answer}
+use Rattle.refusal.specs.Answer.{decided, Answer}
 use Rattle.field.specs.declared.Level.{Level}
 use Rattle.field.specs.Level.{K}
 use Rattle.key.specs.declared.Key.{Key}
@@ -25,10 +25,10 @@ module _ (l : Level) (key : Key) where
   system lent = system_of l key.n key.m lent
 
   -- the refusals of each, in order
-  abbrev pub constraints_rows : KeySlices → (positions u v t p : List ℕ) → List (Bool × ℕ)
+  abbrev pub constraints_rows : KeySlices → (positions u v t p : List ℕ) → List (Bool × Refusal)
   constraints_rows lent positions u v t p = sizes l key ++ checks l key (long (constraints_lent (lengths l key) lent positions u v t p)) lent (below 1 u) (withins l (v ∷ [])) (codes_of key.n positions)
 
-  abbrev pub values_rows : KeySlices → (t q Δ p : List ℕ) → List (Bool × ℕ)
+  abbrev pub values_rows : KeySlices → (t q Δ p : List ℕ) → List (Bool × Refusal)
   values_rows lent t q Δ p = sizes l key ++ checks l key (long (values_lent (lengths l key) lent t q Δ p)) lent (below 1 t) (withins l (q ∷ Δ ∷ [])) Column
 
   -- past 1 to 4, 15 is the answer exactly when the rows of H lean on each other

@@ -1,16 +1,16 @@
 // The entries constraints and values: the specification, 'Polynomials and values'.
 #![tactic(auto)]
 
-ghost use Rattle.std.specs.Prelude.{◌≡◌, eqb, length};
+ghost use Rattle.refusal.specs.declared.Refusal.TheVariants.{DependentRows};
+ghost use Rattle.std.specs.Prelude.{◌≡◌, length, Err};
 ghost use Rattle.lists.specs.Lent.{long};
-ghost use Rattle.refusal.specs.Answer.{refusal, first_of};
+ghost use Rattle.refusal.specs.Answer.{first_of, Done};
 ghost use Rattle.field.specs.Level.{FIRST, level_at};
 ghost use Rattle.field.specs.Word.{Words};
 ghost use Rattle.row.specs.Elements.{Bits};
 ghost use Rattle.row.specs.Lent.{LentKey, LentTarget};
 ghost use Rattle.key.specs.Key.{Sized, KeySlices, key_slices, lengths};
 ghost use Rattle.constraints.specs.Entry.{constraints_lent, constraints_rows, constraints_outcome, constraints_leans, values_lent, values_rows, values_outcome, values_leans, system};
-ghost use Rattle.refusal.specs.declared.Answer.TheVariants.{Done};
 ghost use Rattle.constraints.specs.Slices.{masked_bytes, polynomial_words, value_words, witness_of};
 ghost use Rattle.constraints.specs.Truth.{Truth};
 
@@ -23,7 +23,7 @@ const POLYNOMIALS: usize = 5376;
 
 const VALUES: usize = 768;
 
-// Zero exactly when each slice of constraints has its length.
+// Whether each slice of constraints has its length.
 fn constraints_lengths(
     key: Key,
     h: &[u16],
@@ -34,18 +34,22 @@ fn constraints_lengths(
     v: &[u16],
     t: &[u8],
     p: &[u16],
-) -> usize
+) -> bool
     requires { Sized (level_at FIRST) key }
-    ensures { eqb result 0 ≡ long (constraints_lent (lengths (level_at FIRST) key) (key_slices h.now x.now y.now) positions.now u.now v.now t.now p.now) }
+    ensures { result ≡ long (constraints_lent (lengths (level_at FIRST) key) (key_slices h.now x.now y.now) positions.now u.now v.now t.now p.now) }
 {
     let len = key.lengths(FIRST);
-    let outputs = (t.len() ^ len.bits) | (p.len() ^ len.polynomials);
-    let material = (positions.len() ^ len.positions)
-        | ((u.len() ^ len.bits) | ((v.len() ^ len.elements) | outputs));
-    (h.len() ^ len.matrix) | ((x.len() ^ len.vector) | ((y.len() ^ len.target) | material))
+    h.len() == len.matrix
+        && x.len() == len.vector
+        && y.len() == len.target
+        && positions.len() == len.positions
+        && u.len() == len.bits
+        && v.len() == len.elements
+        && t.len() == len.bits
+        && p.len() == len.polynomials
 }
 
-// The first refusal of constraints that applies, or Done.
+// The first refusal of constraints that applies; Ok where none does.
 fn constraints_refused(
     key: Key,
     h: &[u16],
@@ -59,24 +63,17 @@ fn constraints_refused(
 ) -> Answer
     ensures { result ≡ first_of (constraints_rows (level_at FIRST) key (key_slices h.now x.now y.now) positions.now u.now v.now t.now p.now) }
 {
-    let sizes = key.sizes(FIRST);
-    if let Answer::Refused(_) = sizes {
-        return sizes;
+    key.sizes(FIRST)?;
+    if !constraints_lengths(key, h, x, y, positions, u, v, t, p) {
+        return Err(Refusal::SliceLength);
     }
-    let lengths = constraints_lengths(key, h, x, y, positions, u, v, t, p);
-    if lengths != 0 {
-        return Answer::Refused(Refusal::SLICE_LENGTH);
-    }
-    let contents = key.contents(h, x, y, FIRST);
-    if let Answer::Refused(_) = contents {
-        return contents;
-    }
+    key.contents(h, x, y, FIRST)?;
     // Spare codes are taken: the digit of TooLarge alone is kept, which their number does not have.
     let code = key.codes(positions) & Code::TOO_LARGE;
     key::material(key::over(u, 1), field::excess(v, FIRST), code)
 }
 
-// Zero exactly when each slice of values has its length.
+// Whether each slice of values has its length.
 fn values_lengths(
     key: Key,
     h: &[u16],
@@ -86,17 +83,21 @@ fn values_lengths(
     q: &[u16],
     delta: &[u16],
     p: &[u16],
-) -> usize
+) -> bool
     requires { Sized (level_at FIRST) key }
-    ensures { eqb result 0 ≡ long (values_lent (lengths (level_at FIRST) key) (key_slices h.now x.now y.now) t.now q.now delta.now p.now) }
+    ensures { result ≡ long (values_lent (lengths (level_at FIRST) key) (key_slices h.now x.now y.now) t.now q.now delta.now p.now) }
 {
     let len = key.lengths(FIRST);
-    let material = (t.len() ^ len.bits)
-        | ((q.len() ^ len.elements) | ((delta.len() ^ len.one) | (p.len() ^ len.values)));
-    (h.len() ^ len.matrix) | ((x.len() ^ len.vector) | ((y.len() ^ len.target) | material))
+    h.len() == len.matrix
+        && x.len() == len.vector
+        && y.len() == len.target
+        && t.len() == len.bits
+        && q.len() == len.elements
+        && delta.len() == len.one
+        && p.len() == len.values
 }
 
-// The first refusal of values that applies, or Done.
+// The first refusal of values that applies; Ok where none does.
 fn values_refused(
     key: Key,
     h: &[u16],
@@ -109,18 +110,11 @@ fn values_refused(
 ) -> Answer
     ensures { result ≡ first_of (values_rows (level_at FIRST) key (key_slices h.now x.now y.now) t.now q.now delta.now p.now) }
 {
-    let sizes = key.sizes(FIRST);
-    if let Answer::Refused(_) = sizes {
-        return sizes;
+    key.sizes(FIRST)?;
+    if !values_lengths(key, h, x, y, t, q, delta, p) {
+        return Err(Refusal::SliceLength);
     }
-    let lengths = values_lengths(key, h, x, y, t, q, delta, p);
-    if lengths != 0 {
-        return Answer::Refused(Refusal::SLICE_LENGTH);
-    }
-    let contents = key.contents(h, x, y, FIRST);
-    if let Answer::Refused(_) = contents {
-        return contents;
-    }
+    key.contents(h, x, y, FIRST)?;
     let coordinates = field::excess(q, FIRST) | field::excess(delta, FIRST);
     key::material(key::over(t, 1), coordinates, Code::COLUMN)
 }
@@ -180,18 +174,13 @@ pub fn constraints(
     polynomials: &mut [u16],
 ) -> Answer
     ensures outcome { (result, (t.new, polynomials.new)) ≡ constraints_outcome (level_at FIRST) key (key_slices h.now x.now y.now) positions.now u.now v.now t.old polynomials.old }
-    ensures leans { constraints_leans (level_at FIRST) key (key_slices h.now x.now y.now) positions.now u.now v.now t.old polynomials.old (result ≡ refusal 15) }
+    ensures leans { constraints_leans (level_at FIRST) key (key_slices h.now x.now y.now) positions.now u.now v.now t.old polynomials.old (result ≡ Err DependentRows) }
     ensures truth { result ≡ Done → Truth (level_at FIRST) key.n key.m (key_slices h.now x.now y.now) positions.now u.now v.now t.new polynomials.new }
 {
-    let answer = constraints_refused(key, h, x, y, positions, u, v, t, polynomials);
-    match answer {
-        Answer::Done => {
-            write_masked_witness(key, positions, u, t);
-            write_polynomials(key, h, x, y, positions, v, polynomials);
-        }
-        Answer::Refused(_) => {}
-    }
-    answer
+    constraints_refused(key, h, x, y, positions, u, v, t, polynomials)?;
+    write_masked_witness(key, positions, u, t);
+    write_polynomials(key, h, x, y, positions, v, polynomials);
+    Ok(())
 }
 
 // Writes the values.
@@ -240,14 +229,9 @@ pub fn values(
     values: &mut [u16],
 ) -> Answer
     ensures outcome { (result, values.new) ≡ values_outcome (level_at FIRST) key (key_slices h.now x.now y.now) t.now q.now delta.now values.old }
-    ensures leans { values_leans (level_at FIRST) key (key_slices h.now x.now y.now) t.now q.now delta.now values.old (result ≡ refusal 15) }
+    ensures leans { values_leans (level_at FIRST) key (key_slices h.now x.now y.now) t.now q.now delta.now values.old (result ≡ Err DependentRows) }
 {
-    let answer = values_refused(key, h, x, y, t, q, delta, values);
-    match answer {
-        Answer::Done => {
-            write_values(key, h, x, y, t, q, delta, values);
-        }
-        Answer::Refused(_) => {}
-    }
-    answer
+    values_refused(key, h, x, y, t, q, delta, values)?;
+    write_values(key, h, x, y, t, q, delta, values);
+    Ok(())
 }

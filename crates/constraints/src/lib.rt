@@ -9,13 +9,13 @@ ghost use Rattle.field.specs.Level.{FIRST, level_at};
 ghost use Rattle.field.specs.Word.{Words};
 ghost use Rattle.row.specs.Elements.{Bits};
 ghost use Rattle.row.specs.Lent.{LentKey, LentTarget};
-ghost use Rattle.key.specs.Key.{Sized, KeySlices, key_slices, lengths};
+ghost use Rattle.key.specs.Key.{Sized, KeySlices, slices_of, lengths};
 ghost use Rattle.constraints.specs.Entry.{constraints_lent, constraints_rows, constraints_outcome, constraints_leans, values_lent, values_rows, values_outcome, values_leans, system};
 ghost use Rattle.constraints.specs.Slices.{masked_bytes, polynomial_words, value_words, witness_of};
 ghost use Rattle.constraints.specs.Truth.{Truth};
 
 use field::FIRST;
-use key::{Code, Key};
+use key::{Code, Key, Lent};
 use refusal::{Answer, Refusal};
 
 // Words of work space, at the widest level: d + 1 coefficients, or one value, for each of 2^d columns.
@@ -25,23 +25,20 @@ const VALUES: usize = 768;
 
 // Whether each slice of constraints has its length.
 fn constraints_lengths(
-    key: Key,
-    h: &[u16],
-    x: &[u16],
-    y: &[u16],
+    lent: &Lent<'_>,
     positions: &[u8],
     u: &[u8],
     v: &[u16],
     t: &[u8],
     p: &[u16],
 ) -> bool
-    requires { Sized (level_at FIRST) key }
-    ensures { result ≡ long (constraints_lent (lengths (level_at FIRST) key) (key_slices h.now x.now y.now) positions.now u.now v.now t.now p.now) }
+    requires { Sized (level_at FIRST) lent.now.key }
+    ensures { result ≡ long (constraints_lent (lengths (level_at FIRST) lent.now.key) (slices_of lent.now) positions.now u.now v.now t.now p.now) }
 {
-    let len = key.lengths(FIRST);
-    h.len() == len.matrix
-        && x.len() == len.vector
-        && y.len() == len.target
+    let len = lent.key.lengths(FIRST);
+    lent.h.len() == len.matrix
+        && lent.x.len() == len.vector
+        && lent.y.len() == len.target
         && positions.len() == len.positions
         && u.len() == len.bits
         && v.len() == len.elements
@@ -51,46 +48,34 @@ fn constraints_lengths(
 
 // The first refusal of constraints that applies; Ok where none does.
 fn constraints_refused(
-    key: Key,
-    h: &[u16],
-    x: &[u16],
-    y: &[u16],
+    lent: &Lent<'_>,
     positions: &[u8],
     u: &[u8],
     v: &[u16],
     t: &[u8],
     p: &[u16],
 ) -> Answer
-    ensures { result ≡ first_of (constraints_rows (level_at FIRST) key (key_slices h.now x.now y.now) positions.now u.now v.now t.now p.now) }
+    ensures { result ≡ first_of (constraints_rows (level_at FIRST) lent.now.key (slices_of lent.now) positions.now u.now v.now t.now p.now) }
 {
-    key.sizes(FIRST)?;
-    if !constraints_lengths(key, h, x, y, positions, u, v, t, p) {
+    lent.key.sizes(FIRST)?;
+    if !constraints_lengths(lent, positions, u, v, t, p) {
         return Err(Refusal::SliceLength);
     }
-    key.contents(h, x, y, FIRST)?;
+    lent.contents(FIRST)?;
     // Spare codes are taken: the digit of TooLarge alone is kept, which their number does not have.
-    let code = key.codes(positions) & Code::TOO_LARGE;
+    let code = lent.key.codes(positions) & Code::TOO_LARGE;
     key::material(key::over(u, 1), field::excess(v, FIRST), code)
 }
 
 // Whether each slice of values has its length.
-fn values_lengths(
-    key: Key,
-    h: &[u16],
-    x: &[u16],
-    y: &[u16],
-    t: &[u8],
-    q: &[u16],
-    delta: &[u16],
-    p: &[u16],
-) -> bool
-    requires { Sized (level_at FIRST) key }
-    ensures { result ≡ long (values_lent (lengths (level_at FIRST) key) (key_slices h.now x.now y.now) t.now q.now delta.now p.now) }
+fn values_lengths(lent: &Lent<'_>, t: &[u8], q: &[u16], delta: &[u16], p: &[u16]) -> bool
+    requires { Sized (level_at FIRST) lent.now.key }
+    ensures { result ≡ long (values_lent (lengths (level_at FIRST) lent.now.key) (slices_of lent.now) t.now q.now delta.now p.now) }
 {
-    let len = key.lengths(FIRST);
-    h.len() == len.matrix
-        && x.len() == len.vector
-        && y.len() == len.target
+    let len = lent.key.lengths(FIRST);
+    lent.h.len() == len.matrix
+        && lent.x.len() == len.vector
+        && lent.y.len() == len.target
         && t.len() == len.bits
         && q.len() == len.elements
         && delta.len() == len.one
@@ -98,23 +83,14 @@ fn values_lengths(
 }
 
 // The first refusal of values that applies; Ok where none does.
-fn values_refused(
-    key: Key,
-    h: &[u16],
-    x: &[u16],
-    y: &[u16],
-    t: &[u8],
-    q: &[u16],
-    delta: &[u16],
-    p: &[u16],
-) -> Answer
-    ensures { result ≡ first_of (values_rows (level_at FIRST) key (key_slices h.now x.now y.now) t.now q.now delta.now p.now) }
+fn values_refused(lent: &Lent<'_>, t: &[u8], q: &[u16], delta: &[u16], p: &[u16]) -> Answer
+    ensures { result ≡ first_of (values_rows (level_at FIRST) lent.now.key (slices_of lent.now) t.now q.now delta.now p.now) }
 {
-    key.sizes(FIRST)?;
-    if !values_lengths(key, h, x, y, t, q, delta, p) {
+    lent.key.sizes(FIRST)?;
+    if !values_lengths(lent, t, q, delta, p) {
         return Err(Refusal::SliceLength);
     }
-    key.contents(h, x, y, FIRST)?;
+    lent.contents(FIRST)?;
     let coordinates = field::excess(q, FIRST) | field::excess(delta, FIRST);
     key::material(key::over(t, 1), coordinates, Code::COLUMN)
 }
@@ -130,30 +106,22 @@ pub fn write_masked_witness(key: Key, positions: &[u8], u: &[u8], t: &mut [u8])
 }
 
 // Writes the polynomials.
-fn write_polynomials(
-    key: Key,
-    h: &[u16],
-    x: &[u16],
-    y: &[u16],
-    positions: &[u8],
-    v: &[u16],
-    p: &mut [u16],
-)
-    requires sized { Sized (level_at FIRST) key × LentKey (level_at FIRST) key.n key.m h.now x.now × Words (level_at FIRST) v.now × LentTarget (level_at FIRST) key.m y.now }
-    requires positions_len { (length positions.now ≡ (lengths (level_at FIRST) key).positions) × (length v.now ≡ (lengths (level_at FIRST) key).elements) × (length p.old ≡ (lengths (level_at FIRST) key).polynomials) }
-    ensures { p.new ≡ polynomial_words (level_at FIRST) (system (level_at FIRST) key (key_slices h.now x.now y.now)) (witness_of key.n positions.now) v.now }
+fn write_polynomials(lent: &Lent<'_>, positions: &[u8], v: &[u16], p: &mut [u16])
+    requires sized { Sized (level_at FIRST) lent.now.key × LentKey (level_at FIRST) lent.now.key.n lent.now.key.m lent.now.h.now lent.now.x.now × Words (level_at FIRST) v.now × LentTarget (level_at FIRST) lent.now.key.m lent.now.y.now }
+    requires positions_len { (length positions.now ≡ (lengths (level_at FIRST) lent.now.key).positions) × (length v.now ≡ (lengths (level_at FIRST) lent.now.key).elements) × (length p.old ≡ (lengths (level_at FIRST) lent.now.key).polynomials) }
+    ensures { p.new ≡ polynomial_words (level_at FIRST) (system (level_at FIRST) lent.now.key (slices_of lent.now)) (witness_of lent.now.key.n positions.now) v.now }
 {
-    let n = key.n;
-    let m = key.m;
+    let n = lent.key.n;
+    let m = lent.key.m;
     let mut work = [0u16; POLYNOMIALS];
     rows::polynomials(
         p,
         n,
         m,
-        key.degree(),
-        h,
-        x,
-        y,
+        lent.key.degree(),
+        lent.h,
+        lent.x,
+        lent.y,
         positions,
         v,
         &mut work,
@@ -163,52 +131,40 @@ fn write_polynomials(
 
 // Writes t, the masked witness, and all polynomials, polynomial 0 first.
 pub fn constraints(
-    key: Key,
-    h: &[u16],
-    x: &[u16],
-    y: &[u16],
+    lent: &Lent<'_>,
     positions: &[u8],
     u: &[u8],
     v: &[u16],
     t: &mut [u8],
     polynomials: &mut [u16],
 ) -> Answer
-    ensures outcome { (result, (t.new, polynomials.new)) ≡ constraints_outcome (level_at FIRST) key (key_slices h.now x.now y.now) positions.now u.now v.now t.old polynomials.old }
-    ensures leans { constraints_leans (level_at FIRST) key (key_slices h.now x.now y.now) positions.now u.now v.now t.old polynomials.old (result ≡ Err DependentRows) }
-    ensures truth { result ≡ Done → Truth (level_at FIRST) key.n key.m (key_slices h.now x.now y.now) positions.now u.now v.now t.new polynomials.new }
+    ensures outcome { (result, (t.new, polynomials.new)) ≡ constraints_outcome (level_at FIRST) lent.now.key (slices_of lent.now) positions.now u.now v.now t.old polynomials.old }
+    ensures leans { constraints_leans (level_at FIRST) lent.now.key (slices_of lent.now) positions.now u.now v.now t.old polynomials.old (result ≡ Err DependentRows) }
+    ensures truth { result ≡ Done → Truth (level_at FIRST) lent.now.key.n lent.now.key.m (slices_of lent.now) positions.now u.now v.now t.new polynomials.new }
 {
-    constraints_refused(key, h, x, y, positions, u, v, t, polynomials)?;
-    write_masked_witness(key, positions, u, t);
-    write_polynomials(key, h, x, y, positions, v, polynomials);
+    constraints_refused(lent, positions, u, v, t, polynomials)?;
+    write_masked_witness(lent.key, positions, u, t);
+    write_polynomials(lent, positions, v, polynomials);
     Ok(())
 }
 
 // Writes the values.
-fn write_values(
-    key: Key,
-    h: &[u16],
-    x: &[u16],
-    y: &[u16],
-    t: &[u8],
-    q: &[u16],
-    delta: &[u16],
-    p: &mut [u16],
-)
-    requires sized { Sized (level_at FIRST) key × LentKey (level_at FIRST) key.n key.m h.now x.now × Bits t.now × Words (level_at FIRST) q.now × Words (level_at FIRST) delta.now × LentTarget (level_at FIRST) key.m y.now }
-    requires t_len { (length t.now ≡ (lengths (level_at FIRST) key).bits) × (length q.now ≡ (lengths (level_at FIRST) key).elements) × (length delta.now ≡ (lengths (level_at FIRST) key).one) × (length p.old ≡ (lengths (level_at FIRST) key).values) }
-    ensures { p.new ≡ value_words (level_at FIRST) (system (level_at FIRST) key (key_slices h.now x.now y.now)) t.now q.now delta.now }
+fn write_values(lent: &Lent<'_>, t: &[u8], q: &[u16], delta: &[u16], p: &mut [u16])
+    requires sized { Sized (level_at FIRST) lent.now.key × LentKey (level_at FIRST) lent.now.key.n lent.now.key.m lent.now.h.now lent.now.x.now × Bits t.now × Words (level_at FIRST) q.now × Words (level_at FIRST) delta.now × LentTarget (level_at FIRST) lent.now.key.m lent.now.y.now }
+    requires t_len { (length t.now ≡ (lengths (level_at FIRST) lent.now.key).bits) × (length q.now ≡ (lengths (level_at FIRST) lent.now.key).elements) × (length delta.now ≡ (lengths (level_at FIRST) lent.now.key).one) × (length p.old ≡ (lengths (level_at FIRST) lent.now.key).values) }
+    ensures { p.new ≡ value_words (level_at FIRST) (system (level_at FIRST) lent.now.key (slices_of lent.now)) t.now q.now delta.now }
 {
-    let n = key.n;
-    let m = key.m;
+    let n = lent.key.n;
+    let m = lent.key.m;
     let mut work = [0u16; VALUES];
     rows::values(
         p,
         n,
         m,
-        key.degree(),
-        h,
-        x,
-        y,
+        lent.key.degree(),
+        lent.h,
+        lent.x,
+        lent.y,
         t,
         q,
         delta,
@@ -218,20 +174,11 @@ fn write_values(
 }
 
 // Writes the n + m values.
-pub fn values(
-    key: Key,
-    h: &[u16],
-    x: &[u16],
-    y: &[u16],
-    t: &[u8],
-    q: &[u16],
-    delta: &[u16],
-    values: &mut [u16],
-) -> Answer
-    ensures outcome { (result, values.new) ≡ values_outcome (level_at FIRST) key (key_slices h.now x.now y.now) t.now q.now delta.now values.old }
-    ensures leans { values_leans (level_at FIRST) key (key_slices h.now x.now y.now) t.now q.now delta.now values.old (result ≡ Err DependentRows) }
+pub fn values(lent: &Lent<'_>, t: &[u8], q: &[u16], delta: &[u16], values: &mut [u16]) -> Answer
+    ensures outcome { (result, values.new) ≡ values_outcome (level_at FIRST) lent.now.key (slices_of lent.now) t.now q.now delta.now values.old }
+    ensures leans { values_leans (level_at FIRST) lent.now.key (slices_of lent.now) t.now q.now delta.now values.old (result ≡ Err DependentRows) }
 {
-    values_refused(key, h, x, y, t, q, delta, values)?;
-    write_values(key, h, x, y, t, q, delta, values);
+    values_refused(lent, t, q, delta, values)?;
+    write_values(lent, t, q, delta, values);
     Ok(())
 }

@@ -9,7 +9,7 @@ use Rattle.refusal.proofs.Answers.{when_done}
 use Rattle.field.specs.Level.{FIRST, level_at}
 use Rattle.constraints.specs.Slices.{value_words}
 use Rattle.key.specs.declared.Code.TheVariants.{Column}
-use Rattle.key.specs.Key.{KeySlices, key_slices, lengths, below, withins}
+use Rattle.key.specs.Key.{KeySlices, slices_of, lengths, below, withins}
 use Rattle.key.proofs.Leans.{leans}
 use Rattle.constraints.proofs.Fine.{values-fine}
 use Rattle.constraints.specs.Entry.{values_lent, values_rows, values_outcome, values_leans, system}
@@ -28,21 +28,21 @@ returns-in_err-values_refused-clause-outcome c = search rules
 pub returns-in_err-values_refused-clause-leans : goal.returns-in_err-values_refused-clause-leans
 returns-in_err-values_refused-clause-leans c =
     let a = c.args in
-    fifteen a.key (key_slices a.h.now a.x.now a.y.now) a.t.now a.q.now a.delta.now a.values.now (search rules)
+    fifteen a.lent.now.key (slices_of a.lent.now) a.t.now a.q.now a.delta.now a.values.now (search rules)
 
 pub write_values-requires : goal.write_values-requires
 write_values-requires c =
     let a = c.args in
-    let f = values-fine FIRST a.key (key_slices a.h.now a.x.now a.y.now) a.t.now a.q.now a.delta.now a.values.now (sym c.values_refused.ensures ∙ c.in_ok-values_refused.was) in
+    let f = values-fine FIRST a.lent.now.key (slices_of a.lent.now) a.t.now a.q.now a.delta.now a.values.now (sym c.values_refused.ensures ∙ c.in_ok-values_refused.was) in
     record { sized = (f.is-sized, f.is_key, f.t-bits, f.q-words, f.Δ-words, f.is-target); t_len = (f.t-length, f.q-length, f.Δ-length, f.p-length) }
 
 pub returns : goal.returns
 unfolding values_outcome
 returns c =
     let a = c.args in
-    let lent = key_slices a.h.now a.x.now a.y.now in
+    let lent = slices_of a.lent.now in
     let e = sym c.in_ok-values_refused.was ∙ c.values_refused.ensures in
     record {
-      outcome = when_done (values_rows (level_at FIRST) a.key lent a.t.now a.q.now a.delta.now a.values.now) (value_words (level_at FIRST) (system (level_at FIRST) a.key lent) a.t.now a.q.now a.delta.now) a.values.now e refl c.write_values.ensures;
-      leans = fifteen a.key lent a.t.now a.q.now a.delta.now a.values.now e;
+      outcome = when_done (values_rows (level_at FIRST) a.lent.now.key lent a.t.now a.q.now a.delta.now a.values.now) (value_words (level_at FIRST) (system (level_at FIRST) a.lent.now.key lent) a.t.now a.q.now a.delta.now) a.values.now e refl c.write_values.ensures;
+      leans = fifteen a.lent.now.key lent a.t.now a.q.now a.delta.now a.values.now e;
     }

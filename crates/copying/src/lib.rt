@@ -5,17 +5,11 @@ ghost use Rattle.std.specs.Prelude.{◌≡◌, ◌+◌, ◌*◌, ◌%◌, ◌≤
 ghost use Rattle.lists.specs.Words.{put};
 ghost use Rattle.copying.specs.Words.{word, words, word_bytes, from_bytes};
 
-fn wide(x: u8) -> usize
-    ensures { (result ≡ x) × (result < 256) }
-{
-    x as usize
-}
-
 // The byte at place i, 0 past the end.
 pub fn byte_at(s: &[u8], i: usize) -> usize
     ensures { (result ≡ get_or s.now i 0) × (result < 256) }
 {
-    if i < s.len() { wide(s[i]) } else { 0 }
+    usize::from(s.get(i).copied().unwrap_or(0))
 }
 
 // The number of two bytes at place i, highest byte first.
@@ -23,7 +17,7 @@ pub fn word_at(s: &[u8], i: usize) -> usize
     requires { i + 1 < length s.now }
     ensures { (result ≡ word s.now i) × (result < 65536) }
 {
-    wide(s[i]) * 256 + wide(s[i + 1])
+    usize::from(s[i]) * 256 + usize::from(s[i + 1])
 }
 
 // The number that bytes make, highest byte first: its lowest 32 bits, which are all of it for four bytes or fewer.
@@ -31,12 +25,10 @@ pub fn from_bytes(c: &[u8]) -> u32
     ensures { result ≡ from_bytes c.now % 4294967296 }
 {
     let mut x = 0;
-    let mut i = 0;
-    while i < c.len() {
-        x = x % 16777216 * 256 + wide(c[i]);
-        i += 1;
+    for &b in c {
+        x = x % 16777216 * 256 + u32::from(b);
     }
-    x as u32
+    x
 }
 
 // The numbers of two bytes of c, at the start of out, whose further words stay; answers how many.
@@ -44,14 +36,11 @@ pub fn words_into(c: &[u8], out: &mut [u16]) -> usize
     requires { length (words c.now) ≤ length out.old }
     ensures { (take result out.new ≡ words c.now) × (result ≤ length out.new) × (result ≡ length (take result out.new)) × (out.new ≡ put 0 (words c.now) out.old) }
 {
-    let mut i = 0;
-    let mut k = 0;
-    while k + 1 < c.len() {
-        out[i] = word_at(c, k) as u16;
-        i += 1;
-        k += 2;
+    let n = c.len() / 2;
+    for i in 0..n {
+        out[i] = word_at(c, 2 * i) as u16;
     }
-    i
+    n
 }
 
 // The bytes, from place at on; answers the place after them.
@@ -59,29 +48,21 @@ pub fn put_bytes(bytes: &[u8], at: usize, out: &mut [u8]) -> usize
     requires { at + length bytes.now ≤ length out.old }
     ensures { (out.new ≡ put at bytes.now out.old) × (result ≡ at + length bytes.now) }
 {
-    let mut i = 0;
-    while i < bytes.len() {
-        out[at + i] = bytes[i];
-        i += 1;
-    }
-    at + i
+    let end = at + bytes.len();
+    out[at..end].copy_from_slice(bytes);
+    end
 }
 
-// Each word as two bytes, highest byte first, from place at on; answers the place after them. Both are taken from the word with its bytes
-// exchanged, so that the compiler makes one store of them.
+// Each word as two bytes, highest byte first, from place at on; answers the place after them.
 pub fn put_words(words: &[u16], at: usize, out: &mut [u8]) -> usize
     requires { at + 2 * length words.now ≤ length out.old }
     ensures { (out.new ≡ put at (word_bytes words.now) out.old) × (result ≡ at + 2 * length words.now) }
 {
-    let mut i = 0;
-    let mut k = at;
-    while i < words.len() {
-        let x = words[i];
-        let exchanged = x % 256 * 256 + x / 256;
-        out[k] = (exchanged % 256) as u8;
-        out[k + 1] = (exchanged / 256) as u8;
-        i += 1;
-        k += 2;
+    for (i, x) in words.iter().enumerate() {
+        let [high, low] = x.to_be_bytes();
+        let k = at + 2 * i;
+        out[k] = high;
+        out[k + 1] = low;
     }
-    k
+    at + 2 * words.len()
 }

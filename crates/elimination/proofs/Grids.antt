@@ -8,7 +8,7 @@ use native.Mathlib.Omega.{arith}
 use lib.Arith.{digits_lt}
 use lib.Bits.{bit_xor, xor_lt}
 use lib.Pow.{pow_pos}
-use lib.ListN.{length, get_or, take, drop, set, replicate, length-append, length-drop, drop_of_length-le, get_or-append, get_or-eq_default}
+use lib.ListN.{length, get_or, take, drop, replicate, length-append, length-drop, drop_of_length-le, get_or-append, get_or-eq_default}
 use lib.Seq.{length-take-le, get_or-take, get_or-drop, get_or-append-add, ext_get_or, take_all}
 use borrow.Rule.Slice.PartMut.{put_mid}
 use Rattle.lists.specs.Words.{concat}
@@ -34,13 +34,6 @@ pub words-zeros : (l : Level) (n : ℕ) → Words l (replicate n 0)
 words-zeros l zero k = pow_pos l.width
 words-zeros l (suc n) zero = pow_pos l.width
 words-zeros l (suc n) (suc k) = words-zeros l n k
-
-pub words-set : (l : Level) (s : List ℕ) (i x : ℕ) → Words l s → x < 2 ^ l.width → Words l (set s i x)
-words-set l [] i x h b k = pow_pos l.width
-words-set l (y ∷ s) zero x h b zero = b
-words-set l (y ∷ s) zero x h b (suc k) = h (suc k)
-words-set l (y ∷ s) (suc i) x h b zero = h 0
-words-set l (y ∷ s) (suc i) x h b (suc k) = words-set l s i x (λ j. h (suc j)) b k
 
 words_take : (l : Level) (n : ℕ) (s : List ℕ) → Words l s → Words l (take n s)
 words_take l zero s h k = pow_pos l.width

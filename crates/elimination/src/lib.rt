@@ -33,15 +33,13 @@ pub fn inverse(a: u16, level: usize) -> u16
     small::product(p, p, level)
 }
 
-// Adds the multiple to each word of the part where the row's word has digit k.
+// Adds the multiple to each word of the part where the row's word has digit k. After a `zip` with `iter_mut` a proof knows no word of the part.
 fn add_digit(part: &mut [u16], row: &[u16], k: usize, multiple: u16)
     requires { (length part.old ≡ length row.now) × (k < 16) }
     ensures { Row (length part.old) part.new (λ j. bit_xor (get_or part.old j 0) (bit_and multiple (get_or row.now j 0 / 2 ^ k % 2 * 65535))) }
 {
-    let mut j: usize = 0;
-    while j < part.len() {
-        part[j] = part[j] ^ (multiple & ((row[j] >> k) % 2 * 0xffff));
-        j += 1;
+    for (j, x) in part.iter_mut().enumerate() {
+        *x ^= multiple & ((row[j] >> k) % 2 * 0xffff);
     }
 }
 
@@ -59,7 +57,7 @@ fn add_multiple(part: &mut [u16], row: &[u16], f: u16, level: usize)
 }
 
 // Clears column c in the unused rows of the rest of a matrix, the rows from `from` on. row holds the words of the row taken from column c on,
-// v is the inverse of the first of them.
+// v is the inverse of the first of them. After `chunks_exact_mut` a proof knows no word of the rest.
 fn clear(
     rest: &mut [u16],
     used: &[u8],
@@ -75,15 +73,13 @@ fn clear(
     requires words { Words (level_at level) rest.old × Words (level_at level) row.now × (v < 2 ^ (level_at level).width) }
     ensures { Grid rows n rest.new (λ i j. cleared_word (level_at level) n c v (λ j. get_or row.now (j - c) 0) rest.old (unused used.now (from + i)) i j) }
 {
-    let mut k: usize = 0;
-    while k < rows {
+    for k in 0..rows {
         if used[from + k] == 0 {
             let start = k * n + c;
             let end = k * n + n;
             let f = small::product(rest[start], v, level);
             add_multiple(&mut rest[start..end], row, f, level);
         }
-        k += 1;
     }
 }
 
@@ -103,11 +99,7 @@ fn clear_below(
 {
     let start = p * n;
     let mut row = [0u16; MOST];
-    let mut j = c;
-    while j < n {
-        row[j] = matrix[start + j];
-        j += 1;
-    }
+    row[c..n].copy_from_slice(&matrix[start + c..start + n]);
     let v = inverse(row[c], level);
     let rest = start + n;
     clear(
@@ -131,18 +123,9 @@ pub fn eliminate(matrix: &mut [u16], n: usize, m: usize, level: usize) -> usize
 {
     let mut used = [0u8; MOST];
     let mut rank: usize = 0;
-    'columns: for c in 0..n {
-        let mut r: usize = 0;
-        let p = loop {
-            if r == m {
-                continue 'columns;
-            }
-            if used[r] == 0 {
-                if matrix[r * n + c] != 0 {
-                    break r;
-                }
-            }
-            r += 1;
+    for c in 0..n {
+        let Some(p) = (0..m).find(|&r| used[r] == 0 && matrix[r * n + c] != 0) else {
+            continue;
         };
         clear_below(matrix, &used, p, n, m, c, level);
         used[p] = 1;
@@ -151,25 +134,13 @@ pub fn eliminate(matrix: &mut [u16], n: usize, m: usize, level: usize) -> usize
     rank
 }
 
-// Copies words.
-fn copy(from: &[u16], to: &mut [u16])
-    requires { length to.old ≡ length from.now }
-    ensures { to.new ≡ from.now }
-{
-    let mut i: usize = 0;
-    while i < to.len() {
-        to[i] = from[i];
-        i += 1;
-    }
-}
-
 // The rank of H, found in a matrix as long, which then holds the cleared form.
 pub fn rank(h: &[u16], matrix: &mut [u16], n: usize, m: usize, level: usize) -> usize
     requires { (length h.now ≡ m * n) × (length matrix.old ≡ length h.now) × (m ≤ n) × (n ≤ (level_at level).most) × Words (level_at level) h.now }
     ensures rank { result ≡ rank_of (level_at level) n m h.now }
     ensures cleared { matrix.new ≡ cleared_words (level_at level) n m h.now }
 {
-    copy(h, matrix);
+    matrix.copy_from_slice(h);
     eliminate(matrix, n, m, level)
 }
 
@@ -179,6 +150,5 @@ pub fn short(h: &[u16], n: usize, m: usize, level: usize) -> bool
     ensures { result ≡ short (level_at level) n m h.now }
 {
     let mut matrix = [0u16; MATRIX];
-    let len = h.len();
-    rank(h, &mut matrix[..len], n, m, level) < m
+    rank(h, &mut matrix[..h.len()], n, m, level) < m
 }

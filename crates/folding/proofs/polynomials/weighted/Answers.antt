@@ -4,8 +4,7 @@ use Rattle.field.specs.RingLaws.{zero-add}
 use Rattle.row.specs.Elements.{el}
 use Rattle.row.specs.Lent.{small_of, entry_of, digit_of, element_of}
 use Rattle.row.specs.Polynomial.{sum, z}
-use Rattle.row.proofs.ElementLaws.{fits_le, cleared-words, cleared-el}
-use Rattle.row.proofs.ListLaws.{blanks-length}
+use Rattle.row.proofs.ElementLaws.{fits_le, cleared-words, cleared-el, cleared-length}
 use Rattle.folding.specs.Weights.{leaf}
 use Rattle.folding.proofs.WeightLaws.{weighted-polynomials}
 use Rattle.folding.proofs.polynomials.weighted.Goals as goal
@@ -30,7 +29,7 @@ returns c =
     let d = c.shares.ensures in
     let total = λ (k : ℕ). sum (K l) a.n (λ i. sum (K l) a.n (λ j. (K l).mul (leaf (K l) alpha x (beta i) j) (z (K l) a.d (w i) (v i) j k))) in
     record {
-      same = d.same ∙ ap length c.clear.ensures ∙ blanks-length (length a.dst.now);
+      same = d.same ∙ cleared-length (length a.dst.now) c.clear.ensures;
       words = d.words;
       holds = λ y k b. d.holds.low k b
           ∙ ap (λ e. (K l).add e (total k)) (cleared-el l (length a.dst.now) k c.clear.ensures (fits_le l (k + 1) a.d (omega arith) refl c.requires.positions_len.3))

@@ -1,11 +1,10 @@
-use Rattle.std.proofs.Common.{◌≡◌, ℕ, ◌+◌, ◌*◌, length, refl, subst, ap, ◌∙◌, arith}
+use Rattle.std.proofs.Common.{◌≡◌, ℕ, ◌+◌, ◌*◌, length, refl, subst, arith}
 use Rattle.field.specs.Level.{level_at, K}
 use Rattle.field.specs.Packed.{Holds}
 use Rattle.row.specs.Elements.{el}
 use Rattle.row.specs.Lent.{small_of, entry_of, bit_of, element_of}
 use Rattle.row.specs.Polynomial.{sum, raise}
-use Rattle.row.proofs.ElementLaws.{fits_le, holds-value, holds-held, cleared-words}
-use Rattle.row.proofs.ListLaws.{blanks-length}
+use Rattle.row.proofs.ElementLaws.{fits_le, holds-value, holds-held, cleared-words, cleared-length}
 use Rattle.folding.proofs.RowLaws.{values-total}
 use Rattle.folding.proofs.values.weighted.Goals as goal
 
@@ -16,7 +15,7 @@ scale-requires c =
       cleared-words l (length a.scaled.now) c.clear.ensures,
       c.requires.lent_key.3,
       record { factor = el l a.delta.now 0; table = c.of-multiples.ensures _ c.get-challenge.ensures },
-      fits_le l a.n a.n (omega arith) (ap length c.clear.ensures ∙ blanks-length (length a.scaled.now)) c.requires.bits_len.5,
+      fits_le l a.n a.n (omega arith) (cleared-length (length a.scaled.now) c.clear.ensures) c.requires.bits_len.5,
       fits_le l a.n (a.n + a.m) (omega arith) refl c.requires.bits_len.3,
     )
 

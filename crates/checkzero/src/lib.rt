@@ -24,11 +24,8 @@ pub fn nonzero(p: &[u16], size: usize, level: usize) -> u16
     ensures { eqb result 0 ≡ every size (λ j. is_zero (level_at level) (el (level_at level) p.now j)) }
 {
     let mut any: u16 = 0;
-    let mut j: usize = 0;
-    while j < size {
-        let element = elements::get(p, j, level);
-        any = any | element.nonzero(level);
-        j += 1;
+    for j in 0..size {
+        any |= elements::get(p, j, level).nonzero(level);
     }
     any
 }
@@ -38,11 +35,9 @@ fn add_masks(dst: &mut [u16], r: &[u16], s: &[u16], count: usize, level: usize)
     requires { Words (level_at level) dst.old × Words (level_at level) r.now × Words (level_at level) s.now × Fits (level_at level) (count + 1) (length dst.old) × Fits (level_at level) count (length r.now) × Fits (level_at level) count (length s.now) }
     ensures { Step (level_at level) dst.old dst.new (λ f g. Added (K (level_at level)) f g (mask (K (level_at level)) count (el (level_at level) r.now) (el (level_at level) s.now)) (count + 1)) }
 {
-    let mut k: usize = 0;
-    while k < count {
+    for k in 0..count {
         elements::add_at(dst, k, elements::get(r, k, level), level);
         elements::add_at(dst, k + 1, elements::get(s, k, level), level);
-        k += 1;
     }
 }
 
@@ -80,9 +75,7 @@ pub fn evaluate(a: &[u16], delta: Element, count: usize, level: usize) -> Elemen
 {
     let multiples = Multiples::of(delta, level);
     let mut total = Element::zero(level);
-    let mut k = count;
-    while 0 < k {
-        k -= 1;
+    for k in (0..count).rev() {
         let lowest = elements::get(a, k, level);
         total = lowest.plus(multiples.times(total, level), level);
     }
@@ -118,10 +111,8 @@ pub fn mask_sum(masks: &[u16], delta: Element, count: usize, level: usize) -> El
     let power = Element::one(level);
     let total = Element::zero(level);
     let mut held = Running { power, total };
-    let mut k: usize = 0;
-    while k < count {
+    for k in 0..count {
         held = turn(held, masks, delta, k, level);
-        k += 1;
     }
     held.total
 }

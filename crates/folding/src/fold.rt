@@ -28,14 +28,12 @@ fn join(buf: &mut [u16], a: usize, b: usize, s: usize, w: u64, multiples: Multip
     ensures { (y : (K (level_at level)).Carrier) → Multiplies (level_at level) multiples y → Step (level_at level) buf.old buf.new (λ f g. Joined (K (level_at level)) f g a b s (odd w) y (s + 1)) }
 {
     let mut carry = Element::zero(level);
-    let mut e: usize = 0;
-    while e < s {
+    for e in 0..s {
         let x = elements::get(buf, a + e, level);
         let y = elements::get(buf, b + e, level);
         let product = multiples.times(x.plus(y, level), level);
         elements::put(buf, a + e, product.plus(carry, level), level);
         carry = chosen(x, y, w, level);
-        e += 1;
     }
     elements::put(buf, a + s, carry, level);
 }
@@ -46,12 +44,9 @@ fn halve(buf: &mut [u16], n: usize, h: usize, s: usize, w: u64, multiples: Multi
     ensures { (y : (K (level_at level)).Carrier) → Multiplies (level_at level) multiples y → Step (level_at level) buf.old buf.new (λ f g. Halved (K (level_at level)) f g n h s (odd w) y h) }
 {
     let half = n * h;
-    let mut a: usize = 0;
-    let mut p: usize = 0;
-    while p < h {
+    for p in 0..h {
+        let a = n * p;
         join(buf, a, a + half, s, w, multiples, level);
-        a += n;
-        p += 1;
     }
 }
 
@@ -61,12 +56,11 @@ pub fn fold(buf: &mut [u16], position: u64, offsets: &[u16], at: usize, d: usize
     requires { Words (level_at level) buf.old × Words (level_at level) offsets.now × (d < 64) × Fits (level_at level) ((d + 1) * 2 ^ d) (length buf.old) × Fits (level_at level) (at + d) (length offsets.now) }
     ensures { Step (level_at level) buf.old buf.new (λ f g. (k : ℕ) → k < d + 1 → g k ≡ sum (K (level_at level)) (2 ^ d) (λ j. (K (level_at level)).mul (f ((d + 1) * j)) (z (K (level_at level)) d (digit d position) (λ i. el (level_at level) offsets.now (at + i)) j k))) }
 {
-    let mut t = d;
-    while 0 < t {
-        t -= 1;
+    for i in 0..d {
+        let t = d - 1 - i;
         let w = (position >> t) % 2;
-        let v = elements::get(offsets, at + (d - 1 - t), level);
+        let v = elements::get(offsets, at + i, level);
         let multiples = Multiples::of(v, level);
-        halve(buf, d + 1, power(t), d - t, w, multiples, level);
+        halve(buf, d + 1, power(t), i + 1, w, multiples, level);
     }
 }

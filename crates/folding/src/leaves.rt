@@ -17,10 +17,8 @@ fn add_row(dst: &mut [u16], multiples: Multiples, h: &[u16], at: usize, n: usize
     requires { Words (level_at level) dst.old × Tabled (level_at level) multiples × Within (level_at level) h.now × (at + n ≤ length h.now) × Fits (level_at level) n (length dst.old) }
     ensures { (y : (K (level_at level)).Carrier) → Multiplies (level_at level) multiples y → Step (level_at level) dst.old dst.new (λ f g. Added (K (level_at level)) f g (λ i. (K (level_at level)).mul (small_of (level_at level) h.now (at + i)) y) n) }
 {
-    let mut i: usize = 0;
-    while i < n {
+    for i in 0..n {
         elements::add_at(dst, i, multiples.scaled(h[at + i], level), level);
-        i += 1;
     }
 }
 
@@ -30,13 +28,9 @@ pub fn multipliers(dst: &mut [u16], h: &[u16], alpha: &[u16], n: usize, m: usize
     ensures { Step (level_at level) dst.old dst.new (λ f g. (i : ℕ) → i < n → g i ≡ multiplier (K (level_at level)) n m (entry_of (level_at level) n h.now) (el (level_at level) alpha.now) i) }
 {
     row::clear(dst);
-    let mut at: usize = 0;
-    let mut e: usize = 0;
-    while e < m {
+    for e in 0..m {
         let factor = elements::get(alpha, n + e, level);
-        add_row(dst, Multiples::of(factor, level), h, at, n, level);
-        at += n;
-        e += 1;
+        add_row(dst, Multiples::of(factor, level), h, n * e, n, level);
     }
 }
 
@@ -77,16 +71,8 @@ pub fn leaves(
     requires { Words (level_at level) dst.old × Words (level_at level) alpha.now × Tabled (level_at level) multiples × Within (level_at level) x.now × (n ≤ length x.now) × (0 < stride) × (first ≤ count) × Fits (level_at level) (stride * count) (length dst.old) × Fits (level_at level) n (length alpha.now) }
     ensures { (y : (K (level_at level)).Carrier) → Multiplies (level_at level) multiples y → Step (level_at level) dst.old dst.new (λ f g. Leaves (K (level_at level)) g stride first count n (el (level_at level) alpha.now) (small_of (level_at level) x.now) y) }
 {
-    let mut at: usize = 0;
-    let mut j: usize = 0;
-    while j < count {
-        elements::put(
-            dst,
-            at,
-            weight(alpha, x, multiples, first + j, n, level),
-            level,
-        );
-        at += stride;
-        j += 1;
+    for j in 0..count {
+        let weight = weight(alpha, x, multiples, first + j, n, level);
+        elements::put(dst, stride * j, weight, level);
     }
 }

@@ -63,16 +63,13 @@ fn shares(
     requires d_bound { (d < 64) × (n ≤ 2 ^ d) × (n ≤ length x.now) × (length positions.now ≡ n) × Fits (level_at level) n (length alpha.now) × Fits (level_at level) n (length beta.now) × Fits (level_at level) d (length dst.old) × Fits (level_at level) (d * n) (length offsets.now) × Fits (level_at level) ((d + 1) * 2 ^ d) (length work.old) }
     ensures { Step (level_at level) dst.old dst.new (λ f g. Added (K (level_at level)) f g (λ k. sum (K (level_at level)) n (λ i. sum (K (level_at level)) n (λ j. (K (level_at level)).mul (leaf (K (level_at level)) (el (level_at level) alpha.now) (small_of (level_at level) x.now) (el (level_at level) beta.now i) j) (z (K (level_at level)) d (digit_of d positions.now i) (element_of (level_at level) d offsets.now i) j k)))) d) }
 {
-    let mut at: usize = 0;
-    let mut i: usize = 0;
-    while i < n {
-        let position = positions[i] as u64;
+    for (i, &position) in positions.iter().enumerate() {
+        let position = u64::from(position);
         let weight = elements::get(beta, i, level);
+        let at = d * i;
         row(
             dst, n, d, alpha, x, weight, position, offsets, at, work, level,
         );
-        at += d;
-        i += 1;
     }
 }
 

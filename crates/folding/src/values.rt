@@ -19,11 +19,9 @@ fn scale(dst: &mut [u16], multiples: Multiples, src: &[u16], n: usize, level: us
     requires { Words (level_at level) dst.old × Words (level_at level) src.now × Tabled (level_at level) multiples × Fits (level_at level) n (length dst.old) × Fits (level_at level) n (length src.now) }
     ensures { (y : (K (level_at level)).Carrier) → Multiplies (level_at level) multiples y → Step (level_at level) dst.old dst.new (λ f g. (j : ℕ) → j < n → g j ≡ (K (level_at level)).mul y (el (level_at level) src.now j)) }
 {
-    let mut j: usize = 0;
-    while j < n {
+    for j in 0..n {
         let old = elements::get(src, j, level);
         elements::put(dst, j, multiples.times(old, level), level);
-        j += 1;
     }
 }
 
@@ -33,10 +31,8 @@ fn total(src: &[u16], n: usize, level: usize) -> Element
     ensures { Holds (level_at level) result.words (sum (K (level_at level)) n (el (level_at level) src.now)) }
 {
     let mut all = Element::zero(level);
-    let mut j: usize = 0;
-    while j < n {
+    for j in 0..n {
         all = all.plus(elements::get(src, j, level), level);
-        j += 1;
     }
     all
 }
@@ -57,17 +53,9 @@ fn first_digit(work: &mut [u16], second: &[u16], h: usize, multiples: Multiples,
     requires { Words (level_at level) work.old × Words (level_at level) second.now × Tabled (level_at level) multiples × Fits (level_at level) (h + h) (length work.old) × Fits (level_at level) h (length second.now) }
     ensures { (y : (K (level_at level)).Carrier) → Multiplies (level_at level) multiples y → Step (level_at level) work.old work.new (λ f g. Folded (K (level_at level)) f g h y (el (level_at level) second.now) h) }
 {
-    let mut p: usize = 0;
-    while p < h {
-        fold(
-            work,
-            p,
-            h,
-            multiples,
-            elements::get(second, p, level),
-            level,
-        );
-        p += 1;
+    for p in 0..h {
+        let named = elements::get(second, p, level);
+        fold(work, p, h, multiples, named, level);
     }
 }
 
@@ -83,11 +71,9 @@ fn digit(
     requires { Words (level_at level) work.old × Tabled (level_at level) multiples × Tabled (level_at level) delta × (place ≤ h) × Fits (level_at level) (h + h) (length work.old) }
     ensures { (y Δ : (K (level_at level)).Carrier) → Multiplies (level_at level) multiples y → Multiplies (level_at level) delta Δ → Step (level_at level) work.old work.new (λ f g. Folded (K (level_at level)) f g h y (λ p. (K (level_at level)).mul Δ (f (p + place))) h) }
 {
-    let mut p: usize = 0;
-    while p < h {
+    for p in 0..h {
         let named = elements::get(work, p + place, level);
         fold(work, p, h, multiples, delta.times(named, level), level);
-        p += 1;
     }
 }
 
@@ -106,13 +92,11 @@ fn digits(
     ensures { ((Δ : (K (level_at level)).Carrier) → Multiplies (level_at level) delta Δ → Holds (level_at level) result.words (row_total (K (level_at level)) d (λ k. odd (get_or bits.now (at + k) 0)) (λ k. el (level_at level) numbers.now (at + k)) Δ (el (level_at level) work.old) (d - 1))) × Words (level_at level) work.new }
 {
     let mut h = half;
-    let mut k: usize = 1;
-    while k < d {
-        h = h / 2;
+    for k in 1..d {
+        h /= 2;
         let w = bits[at + k] as usize;
         let q = elements::get(numbers, at + k, level);
         digit(work, h, w * h, Multiples::of(q, level), delta, level);
-        k += 1;
     }
     elements::get(work, 0, level)
 }
@@ -169,16 +153,13 @@ fn all_rows(
     ensures { (Δ : (K (level_at level)).Carrier) → Multiplies (level_at level) delta Δ → Holds (level_at level) result.words (sum (K (level_at level)) n (λ i. sum (K (level_at level)) n (λ j. (K (level_at level)).mul (leaf (K (level_at level)) (el (level_at level) alpha.now) (small_of (level_at level) x.now) (el (level_at level) beta.now i) j) (value (K (level_at level)) d (bit_of d bits.now i) (element_of (level_at level) d numbers.now i) Δ j)))) }
 {
     let mut all = Element::zero(level);
-    let mut at: usize = 0;
-    let mut i: usize = 0;
-    while i < n {
+    for i in 0..n {
         let weight = elements::get(beta, i, level);
+        let at = d * i;
         let share = row(
             n, d, x, bits, numbers, at, delta, alpha, scaled, weight, work, second, level,
         );
         all = all.plus(share, level);
-        at += d;
-        i += 1;
     }
     all
 }

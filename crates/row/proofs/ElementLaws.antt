@@ -37,6 +37,10 @@ fits_all l n {a} h e = (omega arith, subst (λ b. n ≤ b) (sym e) (many l.coord
     many zero p = absurd (omega arith)
     many (suc w) p = subst (λ b. b ≤ suc w * n) (one-mul n) (mul-le-mul_right n p)
 
+-- a list filled with zeros
+pub cleared-length : {s : List ℕ} (n : ℕ) → s ≡ blanks n → length s ≡ n
+cleared-length n e = ap length e ∙ blanks-length n
+
 module _ (l : Level) where
   abbrev w : ℕ
   w = l.coordinates

@@ -1,13 +1,13 @@
 -- Laws of lists given by their words, and of loops that fill a list from the front.
 use mathlib.Core.Path.{◌≡◌, refl, sym, ap, ◌∙◌}
-use mathlib.Core.List.{List, [], ◌∷◌, ◌++◌, append-nil}
+use mathlib.Core.List.{List, [], ◌∷◌, ◌++◌}
 use Prim.Native.Nat.{ℕ, zero, suc, ◌+◌, ◌-◌, ◌≤◌, ◌<◌}
 use native.Mathlib.Decide.{dec_lt}
 use native.Mathlib.Nat.{add-zero}
 use native.Mathlib.Numerals.{add-one}
 use native.Mathlib.Omega.{arith}
-use lib.ListN.{length, get_or, take, drop, set, replicate, length-append, length-replicate, drop_of_length-le, get_or-append}
-use lib.Seq.{take_all, take-suc, drop-cons, length-take-le, set_at, append_snoc, get_or-take, get_or-drop, get_or-append-add}
+use lib.ListN.{length, get_or, take, drop, replicate, length-append, length-replicate, get_or-append}
+use lib.Seq.{length-take-le, get_or-take, get_or-drop, get_or-append-add}
 use Rattle.lists.specs.Words.{put}
 use Rattle.row.specs.Lists.{tab}
 
@@ -50,15 +50,6 @@ module _ (at : ℕ) (c xs : List ℕ) (fits : at + length c ≤ length xs) where
 
       back : at + length c + (k - (at + length c)) ≡ k
       back = omega arith
-
--- a loop that makes d into t from the front: after n turns it is take n t ++ drop n d
-pub copied_more : (n v : ℕ) (t d : List ℕ) → n < length t → n < length d → v ≡ get_or t n 0 → set (take n t ++ drop n d) n v ≡ take (n + 1) t ++ drop (n + 1) d
-copied_more n v t d lt ld e =
-    rw (add-one n, drop-cons d n 0 ld, e, take-suc t n 0 lt)
-    (set_at (take n t) (get_or d n 0) (drop (suc n) d) (get_or t n 0) n (length-take-le n t (omega arith)) ∙ sym (append_snoc (take n t) (get_or t n 0) (drop (suc n) d)))
-
-pub copied_all : (n : ℕ) (t d : List ℕ) → length t ≤ n → length d ≤ n → take n t ++ drop n d ≡ t
-copied_all n t d lt ld = rw (drop_of_length-le d ld, take_all n t lt) (append-nil t)
 
 -- zeros
 abbrev pub blanks : ℕ → List ℕ

@@ -85,9 +85,6 @@ module _ (R : Ring) where
       rest = λ j l m. p.other j (l e (omega arith)) (m e (omega arith)) ∙ t.rest j (λ k n. l k (omega arith)) (λ k n. m k (omega arith));
     }
 
-  pub doubled_none : (f : ℕ → Carrier) (n h s : ℕ) (w : Bool) (v : Carrier) → Doubled R f f n h s w v 0
-  doubled_none f n h s w v = record { low = λ q l. absurd (omega arith); high = λ q l. absurd (omega arith); ahead = λ q l m k o. refl }
-
   pub doubled_more : (f g g₁ : ℕ → Carrier) (n h s : ℕ) (w : Bool) (v : Carrier) (p : ℕ) → s < n → p < h
       → Doubled R f g n h s w v p → Factored R g g₁ (n * p) (n * (p + h)) s w v (s + 1) → Doubled R f g₁ n h s w v (p + 1)
   doubled_more f g g₁ n h s w v p sn ph l t = record {

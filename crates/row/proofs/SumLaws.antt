@@ -39,9 +39,6 @@ module _ (R : Ring) where
   }
 
   module _ (f : ℕ → Carrier) (a s k : ℕ) (c : ℕ → Carrier) (h : k < s) where
-    pub down_none : AddedDown R f f a s k c 0
-    down_none = record { place = λ e l. absurd (omega arith); rest = λ j l. refl }
-
     pub down_more : (g g₁ : ℕ → Carrier) (n : ℕ) (x : Carrier) → AddedDown R f g a s k c n → Put g g₁ (a + s * n + k) (g (a + s * n + k) ⊕ x) → x ≡ c n → AddedDown R f g₁ a s k c (n + 1)
     down_more g g₁ n x t p e = record {
       place = below_more (λ i. g₁ (a + s * i + k) ≡ f (a + s * i + k) ⊕ c i) n
@@ -63,9 +60,6 @@ module _ (R : Ring) where
       pub columns : (j : ℕ) → j < s * n → g j ≡ f j
       pub done : (e : ℕ) → e < m → (k : ℕ) → k < t → g (s * n + s * e + k) ≡ f (s * n + s * e + k) ⊕ h e ⊗ mixed k
       pub ahead : (e : ℕ) → e < m → (k : ℕ) → t ≤ k → k < s → g (s * n + s * e + k) ≡ f (s * n + s * e + k)
-
-    pub checked-none : (f : ℕ → Carrier) → Checked f f 0
-    checked-none f = record { columns = λ j l. refl; done = λ e l k p. absurd (omega arith); ahead = λ e l k p q. refl }
 
     pub checked_more : (f g g₁ : ℕ → Carrier) (t : ℕ) → t < s → Checked f g t → AddedDown R g g₁ (s * n) s t (λ e. h e ⊗ mixed t) m → Checked f g₁ (t + 1)
     checked_more f g g₁ t ts c d = record {

@@ -26,9 +26,6 @@ module _ (R : Ring) where
   unfolding raise
   raise_more y i = ap (raise R y) (sym (add-one i))
 
-  pub twofold_none : (f : ℕ → Carrier) (h : ℕ) (a b : Carrier) → Twofold R f f h a b 0
-  twofold_none f h a b = record { low = λ q l. absurd (omega arith); high = λ q l. absurd (omega arith); ahead = λ q l m. refl }
-
   pub twofold_more : (f g g₁ : ℕ → Carrier) (h : ℕ) (a b : Carrier) (p : ℕ) (x y : Carrier) → p < h → Twofold R f g h a b p → PutTwo g g₁ p x (p + h) y → x ≡ a ⊗ f p → y ≡ b ⊗ f p → Twofold R f g₁ h a b (p + 1)
   twofold_more f g g₁ h a b p x y l t u ex ey = record {
     low = below_more (λ q. g₁ q ≡ a ⊗ f q) p (λ q m. u.other q (omega arith) (omega arith) ∙ t.low q m) (u.first ∙ ex);

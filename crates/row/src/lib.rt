@@ -12,9 +12,5 @@ pub mod sums;
 pub fn clear(s: &mut [u16])
     ensures { s.new ≡ replicate (length s.old) 0 }
 {
-    let mut j: usize = 0;
-    while j < s.len() {
-        s[j] = 0;
-        j += 1;
-    }
+    s.fill(0);
 }

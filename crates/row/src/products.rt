@@ -29,8 +29,7 @@ fn split(buf: &mut [u16], a: usize, b: usize, s: usize, w: u64, multiples: Multi
     ensures { (y : (K (level_at level)).Carrier) → Multiplies (level_at level) multiples y → Step (level_at level) buf.old buf.new (λ f g. Factored (K (level_at level)) f g a b s (odd w) y (s + 1)) }
 {
     let mut carry = Element::zero(level);
-    let mut e: usize = 0;
-    while e < s {
+    for e in 0..s {
         let old = elements::get(buf, a + e, level);
         put_both(
             buf,
@@ -42,7 +41,6 @@ fn split(buf: &mut [u16], a: usize, b: usize, s: usize, w: u64, multiples: Multi
             level,
         );
         carry = old;
-        e += 1;
     }
     put_both(buf, a + s, b + s, Element::zero(level), carry, w, level);
 }
@@ -53,12 +51,9 @@ fn double(buf: &mut [u16], n: usize, h: usize, s: usize, w: u64, multiples: Mult
     ensures { (y : (K (level_at level)).Carrier) → Multiplies (level_at level) multiples y → Step (level_at level) buf.old buf.new (λ f g. Doubled (K (level_at level)) f g n h s (odd w) y h) }
 {
     let half = n * h;
-    let mut a: usize = 0;
-    let mut p: usize = 0;
-    while p < h {
+    for p in 0..h {
+        let a = n * p;
         split(buf, a, a + half, s, w, multiples, level);
-        a += n;
-        p += 1;
     }
 }
 
@@ -69,14 +64,12 @@ pub fn tree(buf: &mut [u16], position: u64, offsets: &[u16], at: usize, d: usize
 {
     elements::put(buf, 0, Element::one(level), level);
     let mut h: usize = 1;
-    let mut t: usize = 0;
-    while t < d {
+    for t in 0..d {
         let w = (position >> t) % 2;
         let v = elements::get(offsets, at + (d - 1 - t), level);
         let multiples = Multiples::of(v, level);
         double(buf, d + 1, h, t + 1, w, multiples, level);
         h += h;
-        t += 1;
     }
 }
 
@@ -87,8 +80,7 @@ fn twin(buf: &mut [u16], h: usize, a: Element, b: Element, level: usize)
 {
     let low = Multiples::of(a, level);
     let high = Multiples::of(b, level);
-    let mut p: usize = 0;
-    while p < h {
+    for p in 0..h {
         let old = elements::get(buf, p, level);
         elements::put_two(
             buf,
@@ -98,7 +90,6 @@ fn twin(buf: &mut [u16], h: usize, a: Element, b: Element, level: usize)
             high.times(old, level),
             level,
         );
-        p += 1;
     }
 }
 
@@ -117,8 +108,7 @@ pub fn value_tree(
 {
     elements::put(buf, 0, Element::one(level), level);
     let mut h: usize = 1;
-    let mut t: usize = 0;
-    while t < d {
+    for t in 0..d {
         let k = at + (d - 1 - t);
         let w = bits[k] as u64;
         let q = elements::get(numbers, k, level);
@@ -127,7 +117,6 @@ pub fn value_tree(
         let high = q.plus(delta.masked(w, level), level);
         twin(buf, h, low, high, level);
         h += h;
-        t += 1;
     }
 }
 
@@ -137,12 +126,10 @@ fn fork(buf: &mut [u16], h: usize, w: u64, level: usize)
     ensures { Step (level_at level) buf.old buf.new (λ f g. Twofold (K (level_at level)) f g h (bit (K (level_at level)) (not (odd w))) (bit (K (level_at level)) (odd w)) h) }
 {
     let complement = 1 - w;
-    let mut p: usize = 0;
-    while p < h {
+    for p in 0..h {
         let old = elements::get(buf, p, level);
         let low = old.masked(complement, level);
         elements::put_two(buf, p, low, p + h, old.masked(w, level), level);
-        p += 1;
     }
 }
 
@@ -153,11 +140,9 @@ pub fn top_tree(buf: &mut [u16], position: u64, d: usize, level: usize)
 {
     elements::put(buf, 0, Element::one(level), level);
     let mut h: usize = 1;
-    let mut t: usize = 0;
-    while t < d {
+    for t in 0..d {
         fork(buf, h, (position >> t) % 2, level);
         h += h;
-        t += 1;
     }
 }
 
@@ -168,10 +153,8 @@ pub fn raised(delta: Element, d: usize, level: usize) -> Element
 {
     let multiples = Multiples::of(delta, level);
     let mut power = Element::one(level);
-    let mut i: usize = 0;
-    while i < d {
+    for _ in 0..d {
         power = multiples.times(power, level);
-        i += 1;
     }
     power
 }

@@ -16,10 +16,8 @@ pub fn add(dst: &mut [u16], src: &[u16], n: usize, level: usize)
     requires { Words (level_at level) dst.old × Words (level_at level) src.now × Fits (level_at level) n (length dst.old) × Fits (level_at level) n (length src.now) }
     ensures { Step (level_at level) dst.old dst.new (λ f g. Added (K (level_at level)) f g (el (level_at level) src.now) n) }
 {
-    let mut k: usize = 0;
-    while k < n {
+    for k in 0..n {
         elements::add_at(dst, k, elements::get(src, k, level), level);
-        k += 1;
     }
 }
 
@@ -29,13 +27,9 @@ pub fn mix(src: &[u16], a: usize, s: usize, k: usize, x: &[u16], n: usize, level
     ensures { Holds (level_at level) result.words (sum (K (level_at level)) n (λ j. (K (level_at level)).mul (small_of (level_at level) x.now j) (el (level_at level) src.now (a + s * j + k)))) }
 {
     let mut parts = [0u64; field::TABLE];
-    let mut at = a;
-    let mut j: usize = 0;
-    while j < n {
-        let term = elements::get(src, at + k, level);
+    for j in 0..n {
+        let term = elements::get(src, a + s * j + k, level);
         combination::add(&mut parts, term, x[j], level);
-        at += s;
-        j += 1;
     }
     combination::total(&parts, level)
 }
@@ -57,14 +51,9 @@ pub fn spread(
     ensures { Step (level_at level) dst.old dst.new (λ f g. AddedDown (K (level_at level)) f g a s k (λ e. (K (level_at level)).mul (entry_of (level_at level) n h.now e i) (value_of (level_at level) y.words)) m) }
 {
     let multiples = Multiples::of(y, level);
-    let mut at = a;
-    let mut entry: usize = 0;
-    let mut e: usize = 0;
-    while e < m {
-        elements::add_at(dst, at + k, multiples.scaled(h[entry + i], level), level);
-        at += s;
-        entry += n;
-        e += 1;
+    for e in 0..m {
+        let term = multiples.scaled(h[n * e + i], level);
+        elements::add_at(dst, a + s * e + k, term, level);
     }
 }
 
@@ -85,11 +74,9 @@ pub fn share(
 {
     let count = s * n;
     add(dst, src, count, level);
-    let mut k: usize = 0;
-    while k < s {
+    for k in 0..s {
         let total = mix(src, 0, s, k, x, n, level);
         spread(dst, count, s, k, total, h, n, m, i, level);
-        k += 1;
     }
 }
 
@@ -98,12 +85,8 @@ fn column_tops(dst: &mut [u16], n: usize, s: usize, k: usize, y: Element, level:
     requires { Words (level_at level) dst.old × Held (level_at level) y.words × (k < s) × Fits (level_at level) (s * n) (length dst.old) }
     ensures { Step (level_at level) dst.old dst.new (λ f g. AddedDown (K (level_at level)) f g 0 s k (λ e. value_of (level_at level) y.words) n) }
 {
-    let mut at: usize = 0;
-    let mut j: usize = 0;
-    while j < n {
-        elements::add_at(dst, at + k, y, level);
-        at += s;
-        j += 1;
+    for j in 0..n {
+        elements::add_at(dst, s * j + k, y, level);
     }
 }
 

@@ -1,5 +1,5 @@
 -- The shares of rows, added one after the other.
-use mathlib.Core.Path.{◌≡◌, ◌∙◌, ap}
+use mathlib.Core.Path.{◌≡◌, sym, ◌∙◌, ap}
 use Prim.Native.Nat.{ℕ, ◌+◌, ◌*◌, ◌<◌}
 use native.Mathlib.Nat.{mul-add}
 use native.Mathlib.Omega.{arith}
@@ -36,14 +36,19 @@ module _ (R : Ring) where
       check = λ e a k b. r.check e a k b ∙ ap (λ y. y ⊕ h e i ⊗ sum R n (λ j. x j ⊗ c i j k)) (t.check e a k b) ∙ sum_more R i (λ q. h e q ⊗ sum R n (λ j. x j ⊗ c q j k));
     }
 
-  -- rows of one element
+-- rows of one element
+pub place_one : (j k : ℕ) → k < 1 → 1 * j + k ≡ j
+place_one j k b = omega arith
+
+module _ (R : Ring) where
+  open R use {Carrier, zero as 𝟘, one as 𝟙, add as ◌⊕◌, mul as ◌⊗◌}
+
+  infixl 60 ◌⊕◌
+  infixl 70 ◌⊗◌
   module _ (f g : ℕ → Carrier) (n m : ℕ) (p : Carrier) (y : ℕ → Carrier) (t : Topped R f g n m 1 0 p y) where
     pub single-column : (j : ℕ) (c : Carrier) → j < n → f (1 * j + 0) ≡ c → g j ≡ c ⊕ p
     unfolding monomial
-    single-column j c l h = ap g place ∙ t.column j l 0 (omega arith) ∙ ap (λ z. z ⊕ p) h
-      where
-        place : j ≡ 1 * j + 0
-        place = omega arith
+    single-column j c l h = ap g (sym (place_one j 0 (omega arith))) ∙ t.column j l 0 (omega arith) ∙ ap (λ z. z ⊕ p) h
 
     pub single-check : (e : ℕ) (c : Carrier) → e < m → f (1 * n + 1 * e + 0) ≡ c → g (n + e) ≡ c ⊕ y e ⊗ p
     unfolding monomial

@@ -60,13 +60,9 @@ pub fn polynomials(
 {
     row::clear(dst);
     row::clear(work);
-    let mut at: usize = 0;
-    let mut i: usize = 0;
-    while i < n {
-        let position = positions[i] as u64;
-        row(dst, n, m, d, h, x, i, position, offsets, at, work, level);
-        at += d;
-        i += 1;
+    for (i, &position) in positions.iter().enumerate() {
+        let position = u64::from(position);
+        row(dst, n, m, d, h, x, i, position, offsets, d * i, work, level);
     }
     sums::tops(dst, n, m, d + 1, d, Element::one(level), y, level);
 }
@@ -111,11 +107,9 @@ pub fn tops(
 {
     row::clear(dst);
     row::clear(work);
-    let mut i: usize = 0;
-    while i < n {
-        let position = positions[i] as u64;
+    for (i, &position) in positions.iter().enumerate() {
+        let position = u64::from(position);
         top_row(dst, n, m, d, h, x, i, position, work, level);
-        i += 1;
     }
     sums::tops(dst, n, m, 1, 0, Element::one(level), y, level);
 }
@@ -166,14 +160,11 @@ pub fn values(
     row::clear(dst);
     row::clear(work);
     let challenge = elements::get(delta, 0, level);
-    let mut at: usize = 0;
-    let mut i: usize = 0;
-    while i < n {
+    for i in 0..n {
+        let at = d * i;
         value_row(
             dst, n, m, d, h, x, i, bits, numbers, at, challenge, work, level,
         );
-        at += d;
-        i += 1;
     }
     let power = products::raised(challenge, d, level);
     sums::tops(dst, n, m, 1, 0, power, y, level);
@@ -184,11 +175,9 @@ fn masked_row(t: &mut [u8], u: &[u8], at: usize, position: u64, d: usize)
     requires { Bits u.now × (d < 64) × (at + d ≤ length u.now) × (at + d ≤ length t.old) }
     ensures { t.new ≡ put at (tab d (λ k. cond (xor (digit d position k) (odd (get_or u.now (at + k) 0))) 1 0)) t.old }
 {
-    let mut k: usize = 0;
-    while k < d {
+    for k in 0..d {
         let digit = ((position >> (d - 1 - k)) % 2) as u8;
         t[at + k] = digit ^ u[at + k];
-        k += 1;
     }
 }
 
@@ -197,12 +186,7 @@ pub fn masked_witness(t: &mut [u8], positions: &[u8], u: &[u8], n: usize, d: usi
     requires { Bits u.now × (d < 64) × (length positions.now ≡ n) × (length u.now ≡ d * n) × (length t.old ≡ d * n) }
     ensures { t.new ≡ masked_witness n d positions.now u.now }
 {
-    let mut at: usize = 0;
-    let mut i: usize = 0;
-    while i < n {
-        let position = positions[i] as u64;
-        masked_row(t, u, at, position, d);
-        at += d;
-        i += 1;
+    for (i, &position) in positions.iter().enumerate() {
+        masked_row(t, u, d * i, u64::from(position), d);
     }
 }

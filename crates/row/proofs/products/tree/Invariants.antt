@@ -1,0 +1,12 @@
+use Rattle.std.proofs.Common.{◌≡◌, ◌+◌, ◌^◌}
+use Rattle.field.specs.Level.{level_at, K}
+use Rattle.field.specs.Word.{Words}
+use Rattle.row.specs.Elements.{el}
+use Rattle.row.specs.Polynomial.{digit}
+use Rattle.row.proofs.ProductLaws.{Products}
+use Rattle.row.proofs.products.tree.Given as goal
+
+abbrev pub invariant-loop-t : goal.invariant-loop-t
+invariant-loop-t l =
+    (l.h ≡ 2 ^ l.t) × Words (level_at l.level) l.buf
+    × Products (K (level_at l.level)) l.d (digit l.d l.position) (λ i. el (level_at l.level) l.offsets (l.at + i)) (l.d + 1) (el (level_at l.level) l.buf) l.t

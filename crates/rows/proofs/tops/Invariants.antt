@@ -1,0 +1,13 @@
+use Rattle.std.proofs.Common.{List, ℕ}
+use Rattle.field.specs.Level.{level_at, K}
+use Rattle.field.specs.Word.{Words}
+use Rattle.row.specs.Elements.{el}
+use Rattle.row.specs.Lent.{small_of, entry_of, digit_of, element_of}
+use Rattle.row.specs.Polynomial.{z}
+use Rattle.rows.proofs.Shares.{Rows}
+use Rattle.rows.proofs.tops.Given as goal
+
+abbrev pub invariant-loop-i : goal.invariant-loop-i
+invariant-loop-i l =
+    Words (level_at l.level) l.dst × Words (level_at l.level) l.work
+    × ((v : List ℕ) → Rows (K (level_at l.level)) l.n l.m 1 (λ i j k. z (K (level_at l.level)) l.d (digit_of l.d l.positions i) (element_of (level_at l.level) l.d v i) j l.d) (small_of (level_at l.level) l.x) (entry_of (level_at l.level) l.n l.h) (el (level_at l.level) l.dst) l.i)

@@ -1,9 +1,13 @@
 // What the operations give for the words of a case.
 ghost use Rattle.std.specs.Prelude.{◌≡◌, ◌≤◌};
 ghost use Rattle.field.specs.Level.{level_at};
+ghost use Rattle.field_cases.specs.declared.answer.TheConstants.{LONGEST};
 
 use crate::operation::{Operation, Refused};
 use field::{Element, Level, Multiples, combination, small};
+
+// The most words of an element.
+pub const LONGEST: usize = 23;
 
 // The result of an operation.
 #[derive(Clone, Copy)]
@@ -12,9 +16,10 @@ pub enum Answer {
     Word(u16),
 }
 
+// The words of an element.
 pub fn coordinates(level: usize) -> usize
     ensures same { result ≡ (level_at level).coordinates }
-    ensures few { result ≤ 23 }
+    ensures few { result ≤ LONGEST }
 {
     Level::of(level).coordinates
 }
@@ -34,7 +39,7 @@ fn split_element(s: &[u16], level: usize) -> Result<(Element, &[u16]), Refused> 
 fn elements<const N: usize>(s: &[u16], level: usize) -> Result<[Element; N], Refused> {
     let mut all = [Element::ZERO; N];
     let mut rest = s;
-    for x in all.iter_mut() {
+    for x in &mut all {
         (*x, rest) = split_element(rest, level)?;
     }
     if rest.is_empty() {
@@ -53,7 +58,7 @@ fn element_and_word(s: &[u16], level: usize) -> Result<(Element, u16), Refused> 
 
 // The element with this word in coordinate i.
 fn term(i: u16, word: u16, level: usize) -> Result<Element, Refused> {
-    let mut s = [0u16; 23];
+    let mut s = [0u16; LONGEST];
     let i = usize::from(i);
     if i >= coordinates(level) {
         return Err(Refused);

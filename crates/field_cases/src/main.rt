@@ -3,7 +3,7 @@
 
 ghost use Rattle.std.specs.Prelude.{◌<◌, length, IfSome};
 
-use answer::{Answer, coordinates};
+use answer::{Answer, LONGEST, coordinates};
 use field::{Element, FIRST, SECOND};
 use operation::{Operation, Refused};
 use std::{fmt, io};
@@ -11,7 +11,7 @@ use std::{fmt, io};
 mod answer;
 mod operation;
 
-// The most words of a case. An element has room in as many.
+// The most words of a case.
 const ROOM: usize = 320;
 
 // A case: the numbers of its level and of its operation, and its words, the higher byte first.
@@ -85,10 +85,10 @@ impl fmt::Display for Line {
         match self.answer {
             Answer::Word(word) => write!(f, " {word:x}"),
             Answer::Element(x) => {
-                let mut room = [0u16; ROOM];
+                let mut room = [0u16; LONGEST];
                 let words = &mut room[..coordinates(level)];
                 x.store(words, 0, level);
-                for word in words.iter() {
+                for word in words {
                     write!(f, " {word:x}")?;
                 }
                 Ok(())
@@ -102,11 +102,11 @@ fn print_lines(rt: &impl Print, file: &[u8]) -> io::Result<()> {
     let mut rest = file;
     while !rest.is_empty() {
         let Some((case, after)) = Case::split(rest) else {
-            return println!(rt; "{Refused}");
+            return rt.println(Refused);
         };
         match case.line() {
-            Ok(line) => println!(rt; "{line}")?,
-            Err(refused) => println!(rt; "{refused}")?,
+            Ok(line) => rt.println(line)?,
+            Err(refused) => rt.println(refused)?,
         }
         rest = after;
     }

@@ -1,30 +1,14 @@
 // Prints the line of perkcheck for each file that an argument names.
 #![tactic(auto)]
 
-ghost use Rattle.std.specs.Prelude.{◌≡◌, ◌≤◌, length, take};
-
 use std::env::FillError;
 use std::io::Read;
 use std::rt::{Env, Files};
 use std::{fs, io, str};
 
-// Reads until buf is full, the input ends or a read fails, and answers how many bytes stand at its start.
-fn read_full(input: &mut impl Read, buf: &mut [u8]) -> usize
-    ensures { (result ≤ length buf.new) × (result ≡ length (take result buf.new)) }
-{
-    let mut done = 0;
-    while done < buf.len() {
-        match input.read(&mut buf[done..]) {
-            Ok(0) | Err(_) => break,
-            Ok(count) => done += count,
-        }
-    }
-    done
-}
-
 fn print_line(rt: &impl Print, input: &mut impl Read) -> io::Result<()> {
     let mut file = [0u8; 32768];
-    let len = read_full(input, &mut file);
+    let len = reading::read_full(input, &mut file);
     let mut line = [0u8; checkfile::LINE];
     let line_len = checkfile::report(&file[..len], &mut line);
     rt.write_all(&line[..line_len])
@@ -32,10 +16,8 @@ fn print_line(rt: &impl Print, input: &mut impl Read) -> io::Result<()> {
 
 // The file of this name; none of a name that isn't text, which std opens no file by.
 fn open_read<R: Files>(rt: &R, name: &[u8]) -> io::Result<R::File> {
-    match str::from_utf8(name) {
-        Ok(path) => fs::open(rt, path),
-        Err(_) => Err(io::Error::from(io::ErrorKind::InvalidInput)),
-    }
+    let path = str::from_utf8(name).map_err(|_| io::ErrorKind::InvalidInput)?;
+    fs::open(rt, path)
 }
 
 // The line of a name that no file was opened by.
@@ -46,15 +28,15 @@ fn fail(errors: &impl Print, name: &[u8], error: io::Error) -> io::Result<()> {
 
 // Whether there is an argument i. A name that is longer than the room for it is taken as an empty one.
 fn check_named<R: Env + Files + Print>(rt: &R, errors: &impl Print, i: usize) -> io::Result<bool> {
-    let mut name = [0u8; 4096];
-    let name_len = match rt.arg(i, &mut name) {
-        Ok(len) => len,
-        Err(FillError::TooLong) => 0,
+    let mut room = [0u8; 4096];
+    let name = match rt.arg(i, &mut room) {
+        Ok(len) => &room[..len],
+        Err(FillError::TooLong) => &[],
         Err(FillError::NotPresent) => return Ok(false),
     };
-    match open_read(rt, &name[..name_len]) {
+    match open_read(rt, name) {
         Ok(mut file) => print_line(rt, &mut file)?,
-        Err(error) => fail(errors, &name[..name_len], error)?,
+        Err(error) => fail(errors, name, error)?,
     }
     Ok(true)
 }

@@ -35,7 +35,7 @@ abbrev pub Done : Answer
 Done = Ok tt
 
 -- the paper's number of each answer: 0 is no refusal
-abbrev pub number_of : Answer → ℕ
+abbrev pub number_of : {A : Type 0} → Result A Refusal → ℕ
 number_of (Ok _) = 0
 number_of (Err r) = number r
 

@@ -69,12 +69,12 @@ pub enum Verdict {
     Rejected,
 }
 
-// The answer's number: 0 where it is done, else the refusal's.
-pub fn number(answer: Answer) -> u32
+// The answer's number: 0 where it is no refusal, else the refusal's.
+pub fn number<T: Copy>(answer: Result<T, Refusal>) -> u32
     ensures { result ≡ number_of answer }
 {
     match answer {
-        Ok(()) => 0,
+        Ok(_) => 0,
         Err(refusal) => refusal.number(),
     }
 }
@@ -86,6 +86,6 @@ pub fn verdict_number(answer: Result<Verdict, Refusal>) -> u32
     match answer {
         Ok(Verdict::Accepted) => 0,
         Ok(Verdict::Rejected) => 255,
-        Err(refusal) => number(Err(refusal)),
+        Err(_) => number(answer),
     }
 }

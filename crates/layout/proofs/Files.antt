@@ -1,4 +1,6 @@
 -- The sizes that field 01 gives, and the tables of packages and check files.
+use Rattle.refusal.specs.declared.Refusal.{Refusal}
+use Rattle.refusal.specs.declared.Refusal.TheVariants.{DependentRows}
 use mathlib.Core.Path.{◌≡◌, refl, sym, ap, ap₂, ◌∙◌, subst}
 use mathlib.Core.Bool.{Bool, true, false}
 use mathlib.Core.Logic.{◌↔◌}
@@ -11,9 +13,8 @@ use lib.ListN.{length, get_or}
 use Rattle.lists.specs.Words.{part}
 use Rattle.lists.proofs.Words.{part_at}
 use Rattle.copying.specs.Words.{word}
-use Rattle.refusal.specs.Answer.{first_of}
+use Rattle.refusal.specs.Answer.{first_of, Done}
 use Rattle.refusal.proofs.Answers.{None, none, both_done}
-use Rattle.refusal.specs.declared.Answer.TheVariants.{Done}
 use Rattle.field.specs.declared.Level.{Level}
 use Rattle.field.specs.Word.{within}
 use Rattle.key.specs.Key.{Sized, lengths}
@@ -37,7 +38,7 @@ pub first-sized : (l : Level) (s : List ℕ) (rows : List Row) → None (tests l
 first-sized l s rows e = subst (Sized l) (key-part s 3) (sized l (key_at (part 3 2 s) 0) (head_passed l s 0 sizes_row rows e).0.values)
 
 pub key-sized : (l : Level) (s : List ℕ) → first_of (key_tests l s) ≡ Done → Sized l (key_of s)
-key-sized l s e = first-sized l s _ (none (tests l s 0 (key_segment l s)) (both_done (tests l s 0 (key_segment l s)) ((leans l s, 15) ∷ []) e).0)
+key-sized l s e = first-sized l s _ (none (tests l s 0 (key_segment l s)) (both_done (tests l s 0 (key_segment l s)) ((leans l s, DependentRows) ∷ []) e).0)
 
 -- what the test of the rows of H relies on, past those of the key's fields
 pub record Filled (l : Level) (s : List ℕ) : Type 0 where
@@ -52,7 +53,7 @@ filled l s e =
     record { is-sized = first-sized l s _ first; fits = h.fits; fine = not-false _ h.values.0 }
 
 -- a row of its own between others
-between : (xs ys zs : List (Bool × ℕ)) (b : Bool) (k : ℕ) → None (xs ++ (b, k) ∷ [] ++ ys ++ zs) ↔ (None (xs ++ ys ++ zs) × (b ≡ false))
+between : (xs ys zs : List (Bool × Refusal)) (b : Bool) (k : Refusal) → None (xs ++ (b, k) ∷ [] ++ ys ++ zs) ↔ (None (xs ++ ys ++ zs) × (b ≡ false))
 between [] ys zs b k = (λ e. (e.1, e.0), λ e. (e.1, e.0))
 between ((c, j) ∷ xs) ys zs b k =
     let r = between xs ys zs b k in
@@ -72,8 +73,8 @@ module _ (l : Level) (s : List ℕ) where
   unfolding package_rows
   package_tests_lem =
       subst (λ t. None (package_tests l s) ↔ (None t × (leans l s ≡ false)))
-      (ap₂ (λ (t : List (Bool × ℕ)) (at : ℕ). t ++ end_tests s at) (sym (tests-append l s 0 (key_segment l s) (group_segment l s))) (sym package_end))
-      (between (tests l s 0 (key_segment l s)) (group_tests l s) (end_tests s (group_end l s)) (leans l s) 15)
+      (ap₂ (λ (t : List (Bool × Refusal)) (at : ℕ). t ++ end_tests s at) (sym (tests-append l s 0 (key_segment l s) (group_segment l s))) (sym package_end))
+      (between (tests l s 0 (key_segment l s)) (group_tests l s) (end_tests s (group_end l s)) (leans l s) DependentRows)
 
   pub package_rows_lem : package_rows l s ≡ sizes_row
       ∷ record { tag = 0x02; len = 2 * (lengths l (key_of s)).matrix; kind = Elements }
@@ -96,11 +97,11 @@ module _ (l : Level) (s : List ℕ) where
       (sym (append_assoc (key_tests l s ++ group_tests l s) (check_tests l s) last))
       (subst (λ t. None (key_tests l s ++ group_tests l s ++ (check_tests l s ++ last)) ↔ (None t × (leans l s ≡ false)))
       (sym (append_assoc (first ++ group_tests l s) (check_tests l s) last)
-      ∙ ap₂ (λ (t : List (Bool × ℕ)) (at : ℕ). t ++ end_tests s at)
-      (ap₂ (λ (t : List (Bool × ℕ)) (at : ℕ). t ++ tests l s at (check_segment l s)) (sym (tests-append l s 0 (key_segment l s) (group_segment l s))) (sym package_end)
+      ∙ ap₂ (λ (t : List (Bool × Refusal)) (at : ℕ). t ++ end_tests s at)
+      (ap₂ (λ (t : List (Bool × Refusal)) (at : ℕ). t ++ tests l s at (check_segment l s)) (sym (tests-append l s 0 (key_segment l s) (group_segment l s))) (sym package_end)
       ∙ sym (tests-append l s 0 (package_rows l s) (check_segment l s)))
       (sym check_file_end))
-      (between first (group_tests l s) (check_tests l s ++ last) (leans l s) 15))
+      (between first (group_tests l s) (check_tests l s ++ last) (leans l s) DependentRows))
 
   pub check_file_rows_lem : check_file_rows l s ≡ package_rows l s ++
       (record { tag = 0x11; len = 2 * (lengths l (key_of s)).elements; kind = Coordinates }

@@ -1,6 +1,8 @@
 -- Laws of the tests that the readers run, for any rows.
-use mathlib.Core.Path.{◌≡◌, refl, sym, ap, ap₂, ◌∙◌}
-use mathlib.Core.Bool.{Bool, true, false, cond}
+use Rattle.std.specs.Prelude.{Result, Ok, Err}
+use Rattle.std.specs.Result.{IsErrAnd}
+use mathlib.Core.Path.{◌≡◌, refl, sym, ap, ◌∙◌}
+use mathlib.Core.Bool.{Bool, false, cond}
 use mathlib.Core.List.{List, [], ◌∷◌, ◌++◌, append_assoc}
 use Prim.Native.Nat.{ℕ, ◌+◌, ◌-◌, ◌≤◌}
 use native.Mathlib.Omega.{arith}
@@ -8,30 +10,26 @@ use borrow.Author.Tests.{eq-eqb, le-ltb, ltb-false, eqb-true, not-false}
 use lib.Dec.{eqb}
 use lib.ListN.{length, get_or}
 use Rattle.lists.specs.Words.{part}
-use Rattle.refusal.specs.Answer.{first_of}
+use Rattle.refusal.specs.Answer.{first_of, Answer, Done}
 use Rattle.refusal.proofs.Answers.{None, after-done, after-refused}
-use Rattle.refusal.specs.declared.Answer.{Answer}
-use Rattle.refusal.specs.declared.Answer.TheVariants.{Done, Refused}
 use Rattle.refusal.specs.declared.Refusal.{Refusal}
 use Rattle.copying.specs.Words.{word}
 use Rattle.field.specs.declared.Level.{Level}
 use Rattle.layout.specs.declared.Row.{Row}
-use Rattle.layout.specs.declared.Step.{Step}
-use Rattle.layout.specs.declared.Step.TheVariants as step
 use Rattle.layout.specs.Layout.{optional}
 use Rattle.layout.specs.Tests.{value_tests, row_tests, tests, after}
-use Rattle.layout.specs.Steps.{stepped, outcome, further}
+use Rattle.layout.specs.Steps.{stepped, outcome}
 
 -- none of some tests, and none of others
-pub none-append : (xs ys : List (Bool × ℕ)) → None (xs ++ ys) → None xs × None ys
+pub none-append : (xs ys : List (Bool × Refusal)) → None (xs ++ ys) → None xs × None ys
 none-append [] ys e = (tt, e)
 none-append ((b, k) ∷ xs) ys e = let r = none-append xs ys e.1 in ((e.0, r.0), r.1)
 
-pub none-join : (xs ys : List (Bool × ℕ)) → None xs → None ys → None (xs ++ ys)
+pub none-join : (xs ys : List (Bool × Refusal)) → None xs → None ys → None (xs ++ ys)
 none-join [] ys e f = f
 none-join ((b, k) ∷ xs) ys e f = (e.0, none-join xs ys e.1 f)
 
-pub none_done : (xs : List (Bool × ℕ)) → None xs → first_of xs ≡ Done
+pub none_done : (xs : List (Bool × Refusal)) → None xs → first_of xs ≡ Done
 none_done [] e = refl
 none_done ((b, k) ∷ xs) e = ap (λ t. first_of ((t, k) ∷ xs)) e.0 ∙ none_done xs e.1
 
@@ -76,59 +74,58 @@ unfolding tests
 head_passed l s at row rows e = let r = none-append (row_tests l s at row) (tests l s (at + 3 + row.len) rows) e in (passed l s at row r.0, r.1)
 
 -- what a step says of the answer behind it
-pub step_refused : (a : Answer) (p : ℕ) {r : Refusal} → stepped a p ≡ step.Refused r → a ≡ Refused r
-step_refused Done p e = let z : ◌≡◌ {A = ℕ} 0 1 = cc in absurd (omega arith)
-step_refused (Refused r) p e = cc
+pub step_refused : (a : Answer) (p : ℕ) {r : Refusal} → stepped a p ≡ Err r → a ≡ Err r
+step_refused (Ok _) p e = let z : ◌≡◌ {A = ℕ} 0 1 = cc in absurd (omega arith)
+step_refused (Err r) p e = cc
 
-pub step_next : (a : Answer) (p : ℕ) {q : ℕ} → stepped a p ≡ step.Next q → (a ≡ Done) × (q ≡ p)
-step_next Done p e = (refl, cc)
-step_next (Refused r) p e = let z : ◌≡◌ {A = ℕ} 0 1 = cc in absurd (omega arith)
+pub step_next : (a : Answer) (p : ℕ) {q : ℕ} → stepped a p ≡ Ok q → (a ≡ Done) × (q ≡ p)
+step_next (Ok _) p e = (refl, cc)
+step_next (Err r) p e = let z : ◌≡◌ {A = ℕ} 0 1 = cc in absurd (omega arith)
 
 -- tests after tests: the first refuse, or the others decide
-module _ (xs ys : List (Bool × ℕ)) (p : ℕ) where
-  pub first_stops : {r : Refusal} → stepped (first_of xs) p ≡ step.Refused r → Refused r ≡ first_of (xs ++ ys)
+module _ (xs ys : List (Bool × Refusal)) (p : ℕ) where
+  pub first_stops : {r : Refusal} → stepped (first_of xs) p ≡ Err r → Err r ≡ first_of (xs ++ ys)
   first_stops e = let h = step_refused (first_of xs) p e in sym h ∙ after-refused xs ys refl h
 
-  pub first_ends : {at : ℕ} → stepped (first_of xs) p ≡ step.Next at → (first_of (xs ++ ys) ≡ first_of ys) × (at ≡ p)
+  pub first_ends : {at : ℕ} → stepped (first_of xs) p ≡ Ok at → (first_of (xs ++ ys) ≡ first_of ys) × (at ≡ p)
   first_ends e = let h = step_next (first_of xs) p e in (after-done xs ys h.0, h.1)
 
--- the step for rows after rows; which they are may depend on the position where they start
-module _ (l : Level) (s : List ℕ) (at : ℕ) where
-  by_step : (rows : List Row) (others : ℕ → List Row) (r : Step) → outcome l s at rows ≡ r → further r (λ p. outcome l s p (others p)) ≡ outcome l s at (rows ++ others (after at rows))
-  by_step rows others (step.Next p) e =
-      let more = others (after at rows) in
-      let h = first_ends (tests l s at rows) (tests l s (after at rows) more) (after at rows) e in
-      ap (λ q. outcome l s q (others q)) h.1
-      ∙ ap₂ (λ (a : Answer) (q : ℕ). stepped a q) (sym h.0 ∙ ap first_of (sym (tests-append l s at rows more))) (sym (after-append at rows more))
-  by_step rows others (step.Refused r) e =
-      let more = others (after at rows) in
-      ap (λ a. stepped a (after at (rows ++ more))) (first_stops (tests l s at rows) (tests l s (after at rows) more) (after at rows) e ∙ ap first_of (sym (tests-append l s at rows more)))
+-- what the exit of a `?` answers
+pub exits : {T : Type 0} {q : Result T Refusal} {k : Refusal} → IsErrAnd q (λ x. x ≡ k) → q ≡ Err k
+exits {q = Ok x} d = absurd d
+exits {q = Err r} d = ap Err d
 
-  pub outcome_then : (rows : List Row) (others : ℕ → List Row) {r q : Step} → r ≡ outcome l s at rows → q ≡ further r (λ p. outcome l s p (others p)) → q ≡ outcome l s at (rows ++ others (after at rows))
-  outcome_then rows others {r} e f = f ∙ by_step rows others r (sym e)
+-- a row and then others, which may depend on the position where they start; r is what reading the row answers
+module _ (l : Level) (s : List ℕ) (at : ℕ) (row : Row) (others : ℕ → List Row) {r : Result ℕ Refusal} (e : r ≡ outcome l s at (row ∷ [])) where
+  abbrev more : List Row
+  more = others (at + 3 + row.len)
 
-  pub outcome_more : (rows others : List Row) {r q : Step} → r ≡ outcome l s at rows → q ≡ further r (λ p. outcome l s p others) → q ≡ outcome l s at (rows ++ others)
-  outcome_more rows others e f = outcome_then rows (λ p. others) e f
+  -- the row refuses
+  pub row_then_stop : {k : Refusal} {q : Result ℕ Refusal} → r ≡ Err k → IsErrAnd q (λ x. x ≡ k) → q ≡ outcome l s at (row ∷ more)
+  unfolding after
+  row_then_stop h d =
+      let stop = first_stops (tests l s at (row ∷ [])) (tests l s (at + 3 + row.len) more) (at + 3 + row.len) (sym e ∙ h) in
+      exits d ∙ ap (λ a. stepped a (after at (row ∷ more))) (stop ∙ ap first_of (sym (tests-append l s at (row ∷ []) more)))
 
--- the step for rows after rows where those before them end
-pub further_more : (l : Level) (s : List ℕ) (rows others : List Row) (p : Step) {r q : Step} → r ≡ further p (λ at. outcome l s at rows) → q ≡ further r (λ at. outcome l s at others) → q ≡ further p (λ at. outcome l s at (rows ++ others))
-further_more l s rows others (step.Next at) e f = outcome_more l s at rows others e f
-further_more l s rows others (step.Refused k) e f = f ∙ ap (λ r. further r (λ at. outcome l s at others)) e
+  -- or the others decide
+  pub row_then_go : {p : ℕ} → r ≡ Ok p → outcome l s p (others p) ≡ outcome l s at (row ∷ more)
+  unfolding after
+  row_then_go h =
+      let go = first_ends (tests l s at (row ∷ [])) (tests l s (at + 3 + row.len) more) (at + 3 + row.len) (sym e ∙ h) in
+      ap (λ q. outcome l s q (others q)) go.1
+      ∙ ap (λ a. stepped a (after at (row ∷ more))) (sym go.0 ∙ ap first_of (sym (tests-append l s at (row ∷ []) more)))
 
 -- one row, by its answer
 module _ (l : Level) (s : List ℕ) (at : ℕ) (row : Row) where
-  pub row_stops : {r : Refusal} → Refused r ≡ first_of (row_tests l s at row) → step.Refused r ≡ outcome l s at (row ∷ [])
+  pub row_stops : {r : Refusal} → Err r ≡ first_of (row_tests l s at row) → Err r ≡ outcome l s at (row ∷ [])
   unfolding tests after
   row_stops e = ap (λ a. stepped a (at + 3 + row.len)) (after-refused (row_tests l s at row) [] e refl)
 
-  pub row_ends : first_of (row_tests l s at row) ≡ Done → step.Next (at + 3 + row.len) ≡ outcome l s at (row ∷ [])
+  pub row_ends : first_of (row_tests l s at row) ≡ Done → Ok (at + 3 + row.len) ≡ outcome l s at (row ∷ [])
   unfolding tests after
   row_ends e = ap (λ a. stepped a (at + 3 + row.len)) (sym (after-done (row_tests l s at row) [] e))
 
-  -- a row that may be absent, by the byte there
-  pub row-there : {b : Bool} → b ≡ eqb (get_or s at 0) row.tag → b ≡ true → outcome l s at (row ∷ []) ≡ outcome l s at (optional s at row)
-  row-there e h = ap (λ t. outcome l s at (cond t (row ∷ []) [])) (sym h ∙ e)
-
-  pub row_absent : {b : Bool} → b ≡ eqb (get_or s at 0) row.tag → b ≡ false → step.Next at ≡ outcome l s at (optional s at row)
+  -- a row that may be absent, where the byte there is not its tag
+  pub row_absent : {b : Bool} → b ≡ eqb (get_or s at 0) row.tag → b ≡ false → Ok at ≡ outcome l s at (optional s at row)
   unfolding tests after
   row_absent e h = ap (λ t. outcome l s at (cond t (row ∷ []) [])) (sym h ∙ e)

@@ -1,5 +1,7 @@
 -- The fields of packages and check files, in order: the specification, 'Packages and check files'. A segment is the rows of fields
 -- that stand together; which they are may depend on the key, on the bytes and on the position where the segment starts.
+use Rattle.refusal.specs.declared.Refusal.{Refusal}
+use Rattle.refusal.specs.declared.Refusal.TheVariants.{DependentRows}
 use Rattle.std.specs.Prelude.{Bool, cond, List, [], ◌∷◌, ◌++◌, ℕ, ◌+◌, ◌*◌, eqb, get_or}
 use Rattle.lists.specs.Words.{part}
 use Rattle.copying.specs.Words.{word, words}
@@ -78,8 +80,8 @@ module _ (l : Level) (s : List ℕ) where
   leans = short l (key_of s).n (key_of s).m matrix_of
 
   -- 15 "in a reader, after all checks of field 03 or, where the next byte is 04, of field 04"
-  abbrev pub key_tests : List (Bool × ℕ)
-  key_tests = tests l s 0 key_segment ++ (leans, 15) ∷ []
+  abbrev pub key_tests : List (Bool × Refusal)
+  key_tests = tests l s 0 key_segment ++ (leans, DependentRows) ∷ []
 
   abbrev pub group_segment : List Row
   group_segment = group_rows l (key_of s) s key_end
@@ -87,7 +89,7 @@ module _ (l : Level) (s : List ℕ) where
   abbrev pub group_end : ℕ
   group_end = after key_end group_segment
 
-  abbrev pub group_tests : List (Bool × ℕ)
+  abbrev pub group_tests : List (Bool × Refusal)
   group_tests = tests l s key_end group_segment
 
   abbrev pub check_segment : List Row
@@ -96,19 +98,19 @@ module _ (l : Level) (s : List ℕ) where
   abbrev pub check_end : ℕ
   check_end = after group_end check_segment
 
-  abbrev pub check_tests : List (Bool × ℕ)
+  abbrev pub check_tests : List (Bool × Refusal)
   check_tests = tests l s group_end check_segment
 
   -- "A package has exactly these fields in this order", those of the key and of one group, "then P6"
   unfoldable pub package_rows : List Row
   package_rows = key_segment ++ group_segment
 
-  abbrev pub package_tests : List (Bool × ℕ)
+  abbrev pub package_tests : List (Bool × Refusal)
   package_tests = key_tests ++ group_tests ++ end_tests s group_end
 
   -- "A check file is a package followed by" those of the check
   unfoldable pub check_file_rows : List Row
   check_file_rows = package_rows ++ check_segment
 
-  abbrev pub check_file_tests : List (Bool × ℕ)
+  abbrev pub check_file_tests : List (Bool × Refusal)
   check_file_tests = key_tests ++ group_tests ++ check_tests ++ end_tests s check_end

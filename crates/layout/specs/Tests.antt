@@ -1,4 +1,6 @@
 -- The tests that the readers run on any bytes, and where a field's content stands.
+use Rattle.refusal.specs.declared.Refusal.{Refusal}
+use Rattle.refusal.specs.declared.Refusal.TheVariants.{KeyElement, Bit, Coordinate, BytesMissing, Tag, FieldLength, BytesFollow, ZeroTarget, LongSerial}
 use Rattle.std.specs.Prelude.{Bool, not, cond, ◌&&◌, List, [], ◌∷◌, ◌++◌, ℕ, ◌+◌, ◌-◌, ltb, eqb, length, get_or}
 use Rattle.lists.specs.Words.{part, all}
 use Rattle.copying.specs.Words.{word, words, from_bytes}
@@ -28,25 +30,25 @@ abbrev pub zeros : List ℕ → Bool
 zeros s = all (λ x. eqb x 0) s
 
 -- P5: "1, 2, 4, 5, 6 .. as above, for the field's content", 14 "at the place of values after 4", and 19
-abbrev pub value_tests : Level → Kind → List ℕ → List (Bool × ℕ)
+abbrev pub value_tests : Level → Kind → List ℕ → List (Bool × Refusal)
 value_tests l Sizes c = sizes l (key_at c 0)
-value_tests l Elements c = (not (within l (words c)), 4) ∷ []
-value_tests l Target c = (not (within l (words c)), 4) ∷ (zeros (words c), 14) ∷ []
-value_tests l Serial c = (long_serial c, 19) ∷ []
-value_tests l Bits c = (not (below 1 c), 5) ∷ []
-value_tests l Coordinates c = (not (within l (words c)), 6) ∷ []
+value_tests l Elements c = (not (within l (words c)), KeyElement) ∷ []
+value_tests l Target c = (not (within l (words c)), KeyElement) ∷ (zeros (words c), ZeroTarget) ∷ []
+value_tests l Serial c = (long_serial c, LongSerial) ∷ []
+value_tests l Bits c = (not (below 1 c), Bit) ∷ []
+value_tests l Coordinates c = (not (within l (words c)), Coordinate) ∷ []
 
 -- one field at a position: P1 head, P2 tag, P3 length, P4 content, P5 values
-unfoldable pub row_tests : Level → List ℕ → ℕ → Row → List (Bool × ℕ)
+unfoldable pub row_tests : Level → List ℕ → ℕ → Row → List (Bool × Refusal)
 row_tests l s at row =
-    (ltb (length s - at) 3, 9)
-    ∷ (not (eqb (get_or s at 0) row.tag), 10)
-    ∷ (not (eqb (word s (at + 1)) row.len), 11)
-    ∷ (ltb (length s - (at + 3)) row.len, 9)
+    (ltb (length s - at) 3, BytesMissing)
+    ∷ (not (eqb (get_or s at 0) row.tag), Tag)
+    ∷ (not (eqb (word s (at + 1)) row.len), FieldLength)
+    ∷ (ltb (length s - (at + 3)) row.len, BytesMissing)
     ∷ value_tests l row.kind (part (at + 3) row.len s)
 
 -- "the readers instead run places P1 to P5 for each field in turn"
-unfoldable pub tests : Level → List ℕ → ℕ → List Row → List (Bool × ℕ)
+unfoldable pub tests : Level → List ℕ → ℕ → List Row → List (Bool × Refusal)
 tests l s at [] = []
 tests l s at (row ∷ rows) = row_tests l s at row ++ tests l s (at + 3 + row.len) rows
 
@@ -56,8 +58,8 @@ after at [] = at
 after at (row ∷ rows) = after (at + 3 + row.len) rows
 
 -- P6: bytes follow the last field, which ends at a position
-abbrev pub end_tests : List ℕ → ℕ → List (Bool × ℕ)
-end_tests s at = (ltb at (length s), 12) ∷ []
+abbrev pub end_tests : List ℕ → ℕ → List (Bool × Refusal)
+end_tests s at = (ltb at (length s), BytesFollow) ∷ []
 
 -- the part of the lent bytes that stands for nothing: length 0, at their start
 abbrev pub empty : Part

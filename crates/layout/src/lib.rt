@@ -2,8 +2,7 @@
 #![tactic(auto)]
 
 ghost use Rattle.std.specs.Prelude.{◌≡◌, List, [], ◌∷◌, ◌+◌, ◌-◌, ◌≤◌, ◌<◌, eqb, length, get_or};
-ghost use Rattle.refusal.specs.Answer.{first_of};
-ghost use Rattle.refusal.specs.declared.Answer.TheVariants.{Done};
+ghost use Rattle.refusal.specs.Answer.{first_of, Done};
 ghost use Rattle.copying.specs.Words.{word, words};
 ghost use Rattle.field.specs.declared.Level.{Level};
 ghost use Rattle.field.specs.Level.{FIRST, level_at};
@@ -13,7 +12,7 @@ ghost use Rattle.layout.specs.declared.Row.{Row};
 ghost use Rattle.layout.specs.declared.Kind.TheVariants.{Target};
 ghost use Rattle.layout.specs.Layout.{serial_length, optional, serial_row, proof_rows, key_segment, group_rows, check_rows, leans, key_tests, key_end};
 ghost use Rattle.layout.specs.Tests.{key_at, zeros, long_serial, value_tests, row_tests, tests, end_tests, part_of};
-ghost use Rattle.layout.specs.Steps.{Whole, stepped, outcome, further};
+ghost use Rattle.layout.specs.Steps.{Whole, stepped, outcome};
 
 use elimination::MATRIX;
 use field::{FIRST, Level};
@@ -21,7 +20,7 @@ use key::Key;
 use refusal::{Answer, Refusal};
 
 // What a field's content holds, and so how its values are checked.
-#[derive(Clone, Copy)]
+#[derive(Clone, Copy, Debug, PartialEq, Eq)]
 pub enum Kind {
     Sizes,
     Elements,
@@ -32,7 +31,7 @@ pub enum Kind {
 }
 
 // A field of the layout: its tag, the length of its content and what that is.
-#[derive(Clone, Copy)]
+#[derive(Clone, Copy, Debug, PartialEq, Eq)]
 pub struct Row {
     pub tag: u8,
     pub len: usize,
@@ -74,18 +73,12 @@ pub const HEAD: usize = 3;
 
 // Where the content of field 02 stands in a file: after field 01 and the head.
 const H_START: usize = 8;
+
 // Where a content stands in the bytes lent.
-#[derive(Clone, Copy)]
+#[derive(Clone, Copy, Debug, PartialEq, Eq)]
 pub struct Part {
     pub start: usize,
     pub len: usize,
-}
-
-// Where the next field starts, or the refusal.
-#[derive(Clone, Copy)]
-pub enum Step {
-    Next(usize),
-    Refused(Refusal),
 }
 
 // n and m, one byte each, at place i: 0 in a content, 3 in a file.
@@ -99,37 +92,27 @@ pub fn key_at(s: &[u8], i: usize) -> Key
     }
 }
 
-// Whether each number of two bytes is within the limit.
+// Whether each number of two bytes is within the limit; a last byte alone is passed over.
 fn words_within(c: &[u8]) -> bool
     ensures { result ≡ within (level_at FIRST) (words c.now) }
 {
-    let limit = Level::of(FIRST).limit as usize;
-    let mut i = 0;
-    while i < c.len() {
-        if c.len() - i < 2 {
-            return true;
-        }
-        if limit < copying::word_at(c, i) {
+    let limit = usize::from(Level::of(FIRST).limit);
+    for pair in c.chunks_exact(2) {
+        if limit < copying::word_at(pair, 0) {
             return false;
         }
-        i += 2;
     }
     true
 }
 
-// Whether each number of two bytes is zero.
+// Whether each number of two bytes is zero; a last byte alone is passed over.
 fn words_zero(c: &[u8]) -> bool
     ensures { result ≡ zeros (words c.now) }
 {
-    let mut i = 0;
-    while i < c.len() {
-        if c.len() - i < 2 {
-            return true;
-        }
-        if copying::word_at(c, i) != 0 {
+    for pair in c.chunks_exact(2) {
+        if copying::word_at(pair, 0) != 0 {
             return false;
         }
-        i += 2;
     }
     true
 }
@@ -139,12 +122,12 @@ fn target_values(c: &[u8]) -> Answer
     ensures { result ≡ first_of (value_tests (level_at FIRST) Target c.now) }
 {
     if !words_within(c) {
-        return Answer::Refused(Refusal::KEY_ELEMENT);
+        return Err(Refusal::KeyElement);
     }
     if words_zero(c) {
-        Answer::Refused(Refusal::ZERO_TARGET)
+        Err(Refusal::ZeroTarget)
     } else {
-        Answer::Done
+        Ok(())
     }
 }
 
@@ -166,31 +149,31 @@ fn values(c: &[u8], kind: Kind) -> Answer
         Kind::Sizes => key_at(c, 0).sizes(FIRST),
         Kind::Elements => {
             if words_within(c) {
-                Answer::Done
+                Ok(())
             } else {
-                Answer::Refused(Refusal::KEY_ELEMENT)
+                Err(Refusal::KeyElement)
             }
         }
         Kind::Target => target_values(c),
         Kind::Serial => {
             if long_serial(c) {
-                Answer::Refused(Refusal::LONG_SERIAL)
+                Err(Refusal::LongSerial)
             } else {
-                Answer::Done
+                Ok(())
             }
         }
         Kind::Bits => {
             if key::over(c, 1) == 0 {
-                Answer::Done
+                Ok(())
             } else {
-                Answer::Refused(Refusal::BIT)
+                Err(Refusal::Bit)
             }
         }
         Kind::Coordinates => {
             if words_within(c) {
-                Answer::Done
+                Ok(())
             } else {
-                Answer::Refused(Refusal::COORDINATE)
+                Err(Refusal::Coordinate)
             }
         }
     }
@@ -200,82 +183,61 @@ fn values(c: &[u8], kind: Kind) -> Answer
 fn left(s: &[u8], at: usize) -> usize
     ensures { result ≡ length s.now - at }
 {
-    if s.len() < at { 0 } else { s.len() - at }
+    s.len().saturating_sub(at)
 }
 
 // P1 to P5 of the field at a position.
 fn check_row(s: &[u8], at: usize, row: Row) -> Answer
     ensures { result ≡ first_of (row_tests (level_at FIRST) s.now at row) }
 {
-    let tag = row.tag;
-    let len = row.len;
-    let kind = row.kind;
     if left(s, at) < HEAD {
-        return Answer::Refused(Refusal::BYTES_MISSING);
+        return Err(Refusal::BytesMissing);
     }
-    let found = s[at];
-    let stated = copying::word_at(s, at + 1);
-    if found != tag {
-        return Answer::Refused(Refusal::TAG);
+    if s[at] != row.tag {
+        return Err(Refusal::Tag);
     }
-    if stated != len {
-        return Answer::Refused(Refusal::FIELD_LENGTH);
+    if copying::word_at(s, at + 1) != row.len {
+        return Err(Refusal::FieldLength);
     }
     let start = at + HEAD;
-    if s.len() - start < len {
-        return Answer::Refused(Refusal::BYTES_MISSING);
+    if s.len() - start < row.len {
+        return Err(Refusal::BytesMissing);
     }
-    let end = start + len;
-    values(&s[start..end], kind)
+    let end = start + row.len;
+    values(&s[start..end], row.kind)
 }
 
 // Whether the byte at a position is this tag; past the end it is 0.
 fn has_tag(s: &[u8], at: usize, tag: u8) -> bool
     ensures { result ≡ eqb (get_or s.now at 0) tag }
 {
-    copying::byte_at(s, at) == tag as usize
+    copying::byte_at(s, at) == usize::from(tag)
 }
 
-// The field where those before it end: its end, or the first refusal.
-fn read_row(s: &[u8], step: Step, row: Row) -> Step
-    ensures { result ≡ further step (λ at. outcome (level_at FIRST) s.now at (row ∷ [])) }
+// The field at a position: where it ends, or the first refusal.
+fn read_row(s: &[u8], at: usize, row: Row) -> Result<usize, Refusal>
+    ensures { result ≡ outcome (level_at FIRST) s.now at (row ∷ []) }
 {
-    match step {
-        Step::Refused(refusal) => Step::Refused(refusal),
-        Step::Next(at) => {
-            let answer = check_row(s, at, row);
-            match answer {
-                Answer::Refused(refusal) => Step::Refused(refusal),
-                Answer::Done => Step::Next(at + HEAD + row.len),
-            }
-        }
-    }
+    check_row(s, at, row)?;
+    Ok(at + HEAD + row.len)
 }
 
 // The same for a field that may be absent: it is read where the byte there is its tag.
-fn read_optional(s: &[u8], step: Step, row: Row) -> Step
-    ensures { result ≡ further step (λ at. outcome (level_at FIRST) s.now at (optional s.now at row)) }
+fn read_optional(s: &[u8], at: usize, row: Row) -> Result<usize, Refusal>
+    ensures { result ≡ outcome (level_at FIRST) s.now at (optional s.now at row) }
 {
-    match step {
-        Step::Refused(refusal) => Step::Refused(refusal),
-        Step::Next(at) => {
-            if has_tag(s, at, row.tag) {
-                read_row(s, Step::Next(at), row)
-            } else {
-                Step::Next(at)
-            }
-        }
+    if has_tag(s, at, row.tag) {
+        read_row(s, at, row)
+    } else {
+        Ok(at)
     }
 }
 
 // The key's fields, which come first: where they end, or the refusal of one of them.
-fn read_key_fields(s: &[u8]) -> Step
+fn read_key_fields(s: &[u8]) -> Result<usize, Refusal>
     ensures { result ≡ outcome (level_at FIRST) s.now 0 (key_segment (level_at FIRST) s.now) }
 {
-    let sizes = read_row(s, Step::Next(0), Row::SIZES);
-    if let Step::Refused(_) = sizes {
-        return sizes;
-    }
+    let at = read_row(s, 0, Row::SIZES)?;
     let len = key_at(s, HEAD).lengths(FIRST);
     let h = Row {
         tag: Row::H,
@@ -292,8 +254,9 @@ fn read_key_fields(s: &[u8]) -> Step
         len: 2 * len.target,
         kind: Kind::Target,
     };
-    let step = read_row(s, read_row(s, sizes, h), x);
-    read_optional(s, step, y)
+    let at = read_row(s, at, h)?;
+    let at = read_row(s, at, x)?;
+    read_optional(s, at, y)
 }
 
 // Whether the rows of H lean on each other, past the tests of the key's fields: by elimination on a copy of its elements.
@@ -311,19 +274,14 @@ fn rows_lean(s: &[u8]) -> bool
 }
 
 // The key's fields and then the rows of H: where the fields end, or the refusal.
-pub fn read_key(s: &[u8]) -> Step
+pub fn read_key(s: &[u8]) -> Result<usize, Refusal>
     ensures { result ≡ stepped (first_of (key_tests (level_at FIRST) s.now)) (key_end (level_at FIRST) s.now) }
 {
-    let step = read_key_fields(s);
-    match step {
-        Step::Refused(refusal) => Step::Refused(refusal),
-        Step::Next(end) => {
-            if rows_lean(s) {
-                Step::Refused(Refusal::DEPENDENT_ROWS)
-            } else {
-                Step::Next(end)
-            }
-        }
+    let end = read_key_fields(s)?;
+    if rows_lean(s) {
+        Err(Refusal::DependentRows)
+    } else {
+        Ok(end)
     }
 }
 
@@ -342,7 +300,7 @@ pub fn serial_length(s: &[u8], at: usize) -> usize
 }
 
 // The field of a serial at a position: where it ends, or the refusal.
-pub fn read_serial(s: &[u8], at: usize) -> Step
+pub fn read_serial(s: &[u8], at: usize) -> Result<usize, Refusal>
     ensures { result ≡ outcome (level_at FIRST) s.now at (serial_row s.now at ∷ []) }
 {
     let serial = Row {
@@ -350,13 +308,13 @@ pub fn read_serial(s: &[u8], at: usize) -> Step
         len: serial_length(s, at),
         kind: Kind::Serial,
     };
-    read_row(s, Step::Next(at), serial)
+    read_row(s, at, serial)
 }
 
-// t and a, where the fields before them end: where they end, or the first refusal.
-pub fn read_proof(s: &[u8], key: Key, step: Step) -> Step
+// t and a, from a position on: where they end, or the first refusal.
+pub fn read_proof(s: &[u8], key: Key, at: usize) -> Result<usize, Refusal>
     requires { Sized (level_at FIRST) key }
-    ensures { result ≡ further step (λ at. outcome (level_at FIRST) s.now at (proof_rows (level_at FIRST) key)) }
+    ensures { result ≡ outcome (level_at FIRST) s.now at (proof_rows (level_at FIRST) key) }
 {
     let len = key.lengths(FIRST);
     let t = Row {
@@ -369,19 +327,21 @@ pub fn read_proof(s: &[u8], key: Key, step: Step) -> Step
         len: 2 * len.proof,
         kind: Kind::Coordinates,
     };
-    read_row(s, read_row(s, step, t), a)
+    let at = read_row(s, at, t)?;
+    read_row(s, at, a)
 }
 
 // The fields from the serial to a, from a position on: where they end, or the refusal.
-pub fn read_group(s: &[u8], key: Key, at: usize) -> Step
+pub fn read_group(s: &[u8], key: Key, at: usize) -> Result<usize, Refusal>
     requires { Sized (level_at FIRST) key }
     ensures { result ≡ outcome (level_at FIRST) s.now at (group_rows (level_at FIRST) key s.now at) }
 {
-    read_proof(s, key, read_serial(s, at))
+    let at = read_serial(s, at)?;
+    read_proof(s, key, at)
 }
 
 // The fields that follow a package in a check file, from a position on: where they end, or the refusal.
-pub fn read_check(s: &[u8], key: Key, at: usize) -> Step
+pub fn read_check(s: &[u8], key: Key, at: usize) -> Result<usize, Refusal>
     requires { Sized (level_at FIRST) key }
     ensures { result ≡ outcome (level_at FIRST) s.now at (check_rows (level_at FIRST) key s.now at) }
 {
@@ -406,8 +366,10 @@ pub fn read_check(s: &[u8], key: Key, at: usize) -> Step
         len: 2 * len.values,
         kind: Kind::Coordinates,
     };
-    let step = read_row(s, read_row(s, Step::Next(at), q), masks);
-    read_row(s, read_row(s, step, delta), alpha)
+    let at = read_row(s, at, q)?;
+    let at = read_row(s, at, masks)?;
+    let at = read_row(s, at, delta)?;
+    read_row(s, at, alpha)
 }
 
 // P6: nothing follows the fields that end at a position.
@@ -415,9 +377,9 @@ pub fn read_end(s: &[u8], at: usize) -> Answer
     ensures { result ≡ first_of (end_tests s.now at) }
 {
     if at < s.len() {
-        Answer::Refused(Refusal::BYTES_FOLLOW)
+        Err(Refusal::BytesFollow)
     } else {
-        Answer::Done
+        Ok(())
     }
 }
 
@@ -425,6 +387,7 @@ pub fn read_end(s: &[u8], at: usize) -> Answer
 pub fn find(s: &[u8], tag: u8) -> Part
     ensures { ((l : Level) (rows : List Row) → Whole l s.now rows → result ≡ part_of tag 0 rows) × (result.start + result.len ≤ length s.now) }
 {
+    // a while, since each step is as long as the bytes state
     let mut at = 0;
     while at < s.len() {
         if s.len() - at < HEAD {

@@ -1,4 +1,5 @@
 -- What bytes that a reader accepts have: sizes, and rows that end with them.
+use Rattle.std.specs.Prelude.{Ok, Err}
 use mathlib.Core.Path.{◌≡◌, refl, sym, ap, ◌∙◌}
 use mathlib.Core.Bool.{Bool, true, false, cond}
 use mathlib.Core.List.{List, [], ◌∷◌, ◌++◌}
@@ -10,9 +11,7 @@ use lib.ListN.{length, get_or, drop, length-take}
 use Rattle.lists.specs.Words.{part}
 use Rattle.copying.specs.Words.{Bytes, word, from_bytes}
 use Rattle.copying.proofs.Bytes.{from_lt, bytes-part}
-use Rattle.refusal.specs.Answer.{first_of}
-use Rattle.refusal.specs.declared.Answer.{Answer}
-use Rattle.refusal.specs.declared.Answer.TheVariants.{Done, Refused}
+use Rattle.refusal.specs.Answer.{first_of, Answer, Done}
 use Rattle.refusal.proofs.Answers.{None, none}
 use Rattle.field.specs.declared.Level.{Level}
 use Rattle.key.specs.Key.{Sized}
@@ -21,7 +20,6 @@ use Rattle.layout.specs.Layout.{serial_length, optional, first_rows, target_row,
 use Rattle.layout.specs.Tests.{key_of, tests, after, end_tests, part_of}
 use Rattle.layout.specs.Steps.{Whole}
 use Rattle.package.specs.declared.Contents.{Contents}
-use Rattle.package.specs.declared.Read.TheVariants.{Fields}
 use Rattle.package.specs.Reading.{Reader, read_as, serial_of, contents_of, reading}
 use Rattle.layout.proofs.Rows.{none-append, none-join, none_done, head_passed}
 use Rattle.layout.proofs.Files.{first-sized, package_tests_lem, check_file_tests_lem}
@@ -74,12 +72,12 @@ module _ (l : Level) (s : List ℕ) where
   unfolding package_rows check_file_rows
   check_file_sized e = first-sized l s _ (none (tests l s 0 (check_file_rows l s)) (check_file_whole e).accepted)
 
-fields-only : (a : Answer) (c : Contents) {d : Contents} → read_as a c ≡ Fields d → (a ≡ Done) × (c ≡ d)
-fields-only Done c e = (refl, cc)
-fields-only (Refused r) c e = let z : ◌≡◌ {A = ℕ} 0 1 = cc in absurd (omega arith)
+fields-only : (a : Answer) (c : Contents) {d : Contents} → read_as a c ≡ Ok d → (a ≡ Done) × (c ≡ d)
+fields-only (Ok _) c e = (refl, cc)
+fields-only (Err r) c e = let z : ◌≡◌ {A = ℕ} 0 1 = cc in absurd (omega arith)
 
 -- a reader that answers with contents refuses nothing, and its n and m are the file's
-pub read-accepts : (reader : Reader) (s : List ℕ) {c : Contents} → reading reader s ≡ Fields c → (first_of (reader.tests s) ≡ Done) × (record { n = c.n; m = c.m } ≡ key_of s)
+pub read-accepts : (reader : Reader) (s : List ℕ) {c : Contents} → reading reader s ≡ Ok c → (first_of (reader.tests s) ≡ Done) × (record { n = c.n; m = c.m } ≡ key_of s)
 read-accepts reader s e =
     let f = fields-only (first_of (reader.tests s)) (contents_of s (reader.rows s)) e in
     (f.0, ap (λ (c : Contents). record { n = c.n; m = c.m }) (sym f.1))

@@ -16,8 +16,10 @@ use Rattle.elimination.specs.Rank.{is_zero, rank_of}
 use Rattle.key.specs.Key.{degree, below}
 use Rattle.layout.specs.Layout.{package_rows, check_file_rows}
 use Rattle.layout.specs.Tests.{row_tests, tests, after, part_of}
-use Rattle.package.specs.declared.Read.{Read}
-use Rattle.package.specs.declared.Read.TheVariants.{Fields, Refused}
+use Rattle.std.specs.Prelude.{Result, Ok, Err}
+use Rattle.refusal.specs.declared.Refusal.{Refusal}
+use Rattle.refusal.specs.declared.Refusal.TheVariants.{SizeN, SizeM, KeyElement, Bit, Coordinate, BytesMissing, Tag, FieldLength, BytesFollow, ZeroTarget, DependentRows, LongSerial}
+use Rattle.package.specs.declared.Contents.{Contents}
 use Rattle.package.specs.Reading.{package_reader, check_file_reader, reading, field_part}
 
 -- an element of K with only coordinate 0, before other bytes
@@ -34,33 +36,34 @@ with_serial serial =
 abbrev pub key_a : List ℕ
 key_a = with_serial (0 ∷ 2 ∷ 0 ∷ 7 ∷ [])
 
+-- the answer of a reader
+abbrev Read : Type 0
+Read = Result Contents Refusal
+
 abbrev read_check : List ℕ → Read
 read_check s = reading (check_file_reader (level_at FIRST)) s
 
 abbrev read_package : List ℕ → Read
 read_package s = reading (package_reader (level_at FIRST)) s
 
-abbrev refused : ℕ → Read
-refused k = Refused (record { number = k })
-
 -- files, whole and with one byte changed, and what reading each as a check file answers
 pub files : List (List ℕ × Read)
 files =
-    (key_a, Fields (record { n = 2; m = 1; serial = 7 }))
-    ∷ ([], refused 9)
-    ∷ (take 211 key_a, refused 9)
-    ∷ (take 56 key_a, refused 9)
-    ∷ (key_a ++ 0 ∷ [], refused 12)
-    ∷ (set key_a 3 1, refused 1)
-    ∷ (set key_a 3 65, refused 1)
-    ∷ (set key_a 4 0, refused 2)
-    ∷ (set key_a 4 2, refused 2)
-    ∷ (set key_a 8 8, refused 4)
-    ∷ (set key_a 15 8, refused 4)
-    ∷ (set key_a 27 2, refused 5)
-    ∷ (set key_a 32 8, refused 6)
-    ∷ (set key_a 19 4, refused 10)
-    ∷ (set key_a 21 3, refused 11)
+    (key_a, Ok (record { n = 2; m = 1; serial = 7 }))
+    ∷ ([], Err BytesMissing)
+    ∷ (take 211 key_a, Err BytesMissing)
+    ∷ (take 56 key_a, Err BytesMissing)
+    ∷ (key_a ++ 0 ∷ [], Err BytesFollow)
+    ∷ (set key_a 3 1, Err SizeN)
+    ∷ (set key_a 3 65, Err SizeN)
+    ∷ (set key_a 4 0, Err SizeM)
+    ∷ (set key_a 4 2, Err SizeM)
+    ∷ (set key_a 8 8, Err KeyElement)
+    ∷ (set key_a 15 8, Err KeyElement)
+    ∷ (set key_a 27 2, Err Bit)
+    ∷ (set key_a 32 8, Err Coordinate)
+    ∷ (set key_a 19 4, Err Tag)
+    ∷ (set key_a 21 3, Err FieldLength)
     ∷ []
 
 pub examples : map (λ f. read_check f.0) files ≡ map (λ f. f.1) files
@@ -70,16 +73,16 @@ examples = refl
 -- the length and the content of the serial, and what reading the file as a check file answers
 pub serials : List (List ℕ × Read)
 serials =
-    (0 ∷ 2 ∷ 255 ∷ 255 ∷ [], Fields (record { n = 2; m = 1; serial = 65535 }))
-    ∷ (0 ∷ 4 ∷ 0 ∷ 1 ∷ 0 ∷ 0 ∷ [], Fields (record { n = 2; m = 1; serial = 65536 }))
-    ∷ (0 ∷ 4 ∷ 255 ∷ 255 ∷ 255 ∷ 255 ∷ [], Fields (record { n = 2; m = 1; serial = 4294967295 }))
-    ∷ (0 ∷ 4 ∷ 0 ∷ 0 ∷ 255 ∷ 255 ∷ [], refused 19)
-    ∷ (0 ∷ 4 ∷ 0 ∷ 0 ∷ 0 ∷ 7 ∷ [], refused 19)
-    ∷ (0 ∷ 0 ∷ [], refused 11)
-    ∷ (0 ∷ 1 ∷ 7 ∷ [], refused 11)
-    ∷ (0 ∷ 3 ∷ 1 ∷ 0 ∷ 0 ∷ [], refused 11)
-    ∷ (0 ∷ 5 ∷ 0 ∷ 0 ∷ 1 ∷ 0 ∷ 0 ∷ [], refused 11)
-    ∷ (4 ∷ 0 ∷ 0 ∷ 1 ∷ 0 ∷ 0 ∷ [], refused 11)
+    (0 ∷ 2 ∷ 255 ∷ 255 ∷ [], Ok (record { n = 2; m = 1; serial = 65535 }))
+    ∷ (0 ∷ 4 ∷ 0 ∷ 1 ∷ 0 ∷ 0 ∷ [], Ok (record { n = 2; m = 1; serial = 65536 }))
+    ∷ (0 ∷ 4 ∷ 255 ∷ 255 ∷ 255 ∷ 255 ∷ [], Ok (record { n = 2; m = 1; serial = 4294967295 }))
+    ∷ (0 ∷ 4 ∷ 0 ∷ 0 ∷ 255 ∷ 255 ∷ [], Err LongSerial)
+    ∷ (0 ∷ 4 ∷ 0 ∷ 0 ∷ 0 ∷ 7 ∷ [], Err LongSerial)
+    ∷ (0 ∷ 0 ∷ [], Err FieldLength)
+    ∷ (0 ∷ 1 ∷ 7 ∷ [], Err FieldLength)
+    ∷ (0 ∷ 3 ∷ 1 ∷ 0 ∷ 0 ∷ [], Err FieldLength)
+    ∷ (0 ∷ 5 ∷ 0 ∷ 0 ∷ 1 ∷ 0 ∷ 0 ∷ [], Err FieldLength)
+    ∷ (4 ∷ 0 ∷ 0 ∷ 1 ∷ 0 ∷ 0 ∷ [], Err FieldLength)
     ∷ []
 
 pub serial_examples : map (λ f. read_check (with_serial f.0)) serials ≡ map (λ f. f.1) serials
@@ -100,20 +103,20 @@ target high low = 0x04 ∷ 0 ∷ 2 ∷ high ∷ low ∷ []
 -- files with field 04 and without, and what reading each as a check file answers
 pub targets : List (List ℕ × Read)
 targets =
-    (after_x [], Fields (record { n = 2; m = 1; serial = 7 }))
-    ∷ (after_x (target 0 7), Fields (record { n = 2; m = 1; serial = 7 }))
-    ∷ (after_x (target 1 0), Fields (record { n = 2; m = 1; serial = 7 }))
-    ∷ (after_x (target 7 255), Fields (record { n = 2; m = 1; serial = 7 }))
-    ∷ (after_x (target 8 0), refused 4)
-    ∷ (after_x (target 0 0), refused 14)
-    ∷ (after_x (target 0 7 ++ target 0 7), refused 10)
-    ∷ (after_serial (target 0 7), refused 10)
-    ∷ (after_x (0x04 ∷ 0 ∷ 0 ∷ []), refused 11)
-    ∷ (after_x (0x04 ∷ 0 ∷ 4 ∷ 0 ∷ 7 ∷ 0 ∷ 7 ∷ []), refused 11)
-    ∷ (take 19 key_a, refused 9)
-    ∷ (take 19 key_a ++ 0x04 ∷ [], refused 9)
-    ∷ (take 19 key_a ++ 0x05 ∷ [], refused 9)
-    ∷ (take 19 key_a ++ take 4 (target 0 7), refused 9)
+    (after_x [], Ok (record { n = 2; m = 1; serial = 7 }))
+    ∷ (after_x (target 0 7), Ok (record { n = 2; m = 1; serial = 7 }))
+    ∷ (after_x (target 1 0), Ok (record { n = 2; m = 1; serial = 7 }))
+    ∷ (after_x (target 7 255), Ok (record { n = 2; m = 1; serial = 7 }))
+    ∷ (after_x (target 8 0), Err KeyElement)
+    ∷ (after_x (target 0 0), Err ZeroTarget)
+    ∷ (after_x (target 0 7 ++ target 0 7), Err Tag)
+    ∷ (after_serial (target 0 7), Err Tag)
+    ∷ (after_x (0x04 ∷ 0 ∷ 0 ∷ []), Err FieldLength)
+    ∷ (after_x (0x04 ∷ 0 ∷ 4 ∷ 0 ∷ 7 ∷ 0 ∷ 7 ∷ []), Err FieldLength)
+    ∷ (take 19 key_a, Err BytesMissing)
+    ∷ (take 19 key_a ++ 0x04 ∷ [], Err BytesMissing)
+    ∷ (take 19 key_a ++ 0x05 ∷ [], Err BytesMissing)
+    ∷ (take 19 key_a ++ take 4 (target 0 7), Err BytesMissing)
     ∷ []
 
 pub target_examples : map (λ f. read_check f.0) targets ≡ map (λ f. f.1) targets
@@ -135,10 +138,10 @@ with_target y = key_with (0 ∷ 1 ∷ 0 ∷ 1 ∷ 0 ∷ 0 ∷ []) ++ (0x04 ∷ 0
 -- the elements of y in it, and what reading it answers: 14 where all are zero, after 4
 pub elements : List (List ℕ × Read)
 elements =
-    (0 ∷ 0 ∷ 1 ∷ 0 ∷ [], Fields (record { n = 3; m = 2; serial = 7 }))
-    ∷ (1 ∷ 0 ∷ 0 ∷ 0 ∷ [], Fields (record { n = 3; m = 2; serial = 7 }))
-    ∷ (0 ∷ 0 ∷ 0 ∷ 0 ∷ [], refused 14)
-    ∷ (0 ∷ 0 ∷ 8 ∷ 0 ∷ [], refused 4)
+    (0 ∷ 0 ∷ 1 ∷ 0 ∷ [], Ok (record { n = 3; m = 2; serial = 7 }))
+    ∷ (1 ∷ 0 ∷ 0 ∷ 0 ∷ [], Ok (record { n = 3; m = 2; serial = 7 }))
+    ∷ (0 ∷ 0 ∷ 0 ∷ 0 ∷ [], Err ZeroTarget)
+    ∷ (0 ∷ 0 ∷ 8 ∷ 0 ∷ [], Err KeyElement)
     ∷ []
 
 pub element_examples : map (λ f. read_package (with_target f.0)) elements ≡ map (λ f. f.1) elements
@@ -149,18 +152,18 @@ element_examples = refl
 -- 04, and otherwise before all others
 pub leanings : List (List ℕ × Read)
 leanings =
-    ([], refused 15)
-    ∷ (0x05 ∷ [], refused 15)
-    ∷ (0x03 ∷ [], refused 15)
-    ∷ (group, refused 15)
-    ∷ (group ++ 0 ∷ [], refused 15)
-    ∷ (0x04 ∷ [], refused 9)
-    ∷ (0x04 ∷ 0 ∷ 2 ∷ 0 ∷ 1 ∷ [], refused 11)
-    ∷ (0x04 ∷ 0 ∷ 4 ∷ 0 ∷ 1 ∷ 0 ∷ [], refused 9)
-    ∷ (0x04 ∷ 0 ∷ 4 ∷ 0 ∷ 1 ∷ 8 ∷ 0 ∷ [], refused 4)
-    ∷ (0x04 ∷ 0 ∷ 4 ∷ 0 ∷ 0 ∷ 0 ∷ 0 ∷ [], refused 14)
-    ∷ (0x04 ∷ 0 ∷ 4 ∷ 0 ∷ 1 ∷ 0 ∷ 0 ∷ [], refused 15)
-    ∷ (0x04 ∷ 0 ∷ 4 ∷ 0 ∷ 1 ∷ 0 ∷ 0 ∷ group, refused 15)
+    ([], Err DependentRows)
+    ∷ (0x05 ∷ [], Err DependentRows)
+    ∷ (0x03 ∷ [], Err DependentRows)
+    ∷ (group, Err DependentRows)
+    ∷ (group ++ 0 ∷ [], Err DependentRows)
+    ∷ (0x04 ∷ [], Err BytesMissing)
+    ∷ (0x04 ∷ 0 ∷ 2 ∷ 0 ∷ 1 ∷ [], Err FieldLength)
+    ∷ (0x04 ∷ 0 ∷ 4 ∷ 0 ∷ 1 ∷ 0 ∷ [], Err BytesMissing)
+    ∷ (0x04 ∷ 0 ∷ 4 ∷ 0 ∷ 1 ∷ 8 ∷ 0 ∷ [], Err KeyElement)
+    ∷ (0x04 ∷ 0 ∷ 4 ∷ 0 ∷ 0 ∷ 0 ∷ 0 ∷ [], Err ZeroTarget)
+    ∷ (0x04 ∷ 0 ∷ 4 ∷ 0 ∷ 1 ∷ 0 ∷ 0 ∷ [], Err DependentRows)
+    ∷ (0x04 ∷ 0 ∷ 4 ∷ 0 ∷ 1 ∷ 0 ∷ 0 ∷ group, Err DependentRows)
     ∷ []
 
 pub leaning_examples : map (λ f. read_package (key_with (replicate 6 0) ++ f.0)) leanings ≡ map (λ f. f.1) leanings
@@ -174,6 +177,6 @@ unfolding word_bytes level_at degree count_leading_zeros package_rows tests row_
 target_parts = refl
 
 -- its package, and the whole file given to the reader of packages
-pub packages : read_package (take 56 key_a) ∷ read_package key_a ∷ [] ≡ Fields (record { n = 2; m = 1; serial = 7 }) ∷ refused 12 ∷ []
+pub packages : read_package (take 56 key_a) ∷ read_package key_a ∷ [] ≡ Ok (record { n = 2; m = 1; serial = 7 }) ∷ Err BytesFollow ∷ []
 unfolding level_at degree count_leading_zeros package_rows tests row_tests after part_of words from_bytes_after within below all rank_of rank cleared column pivot lowest count is_zero small_at small word digits number F times horner times_x rule 𝟘s unit sum scale push top
 packages = refl

@@ -13,7 +13,7 @@ use Rattle.layout.specs.declared.Row.{Row}
 use Rattle.layout.specs.Tests.{key_of, tests, after, part_of}
 use Rattle.layout.specs.Steps.{Whole}
 use Rattle.layout.proofs.Rows.{none_done}
-use Rattle.package.specs.declared.Read.TheVariants.{Fields}
+use Rattle.std.specs.Prelude.{Ok}
 use Rattle.package.specs.Reading.{part_if, read_as, contents_of, reading}
 use Rattle.package.specs.Written.{joined, content_of, serial_bytes, Form, written, Accepted, handed, Faithful}
 use Rattle.package.proofs.Joined.{joined_bytes, cut, part_cut, Back, read_back, exact}
@@ -65,12 +65,12 @@ module _ (l : Level) (form : Form) (Passes : form.Data → Type 0) (table : form
         let same = all ∙ ap joined (sym r.2) in
         (r.0, f.limits r.0 r.1 (subst (Accepted form) same e), same)
 
-    read-written : (x : form.Data) → form.Limits x → reading form.reader (written form x) ≡ Fields (record { n = (form.key x).n; m = (form.key x).m; serial = form.serial x })
+    read-written : (x : form.Data) → form.Limits x → reading form.reader (written form x) ≡ Ok (record { n = (form.key x).n; m = (form.key x).m; serial = form.serial x })
     read-written x v =
         let t = form.reader.rows (written form x) in
         let serial = ap from_bytes (content_of_lem x v 0x05 ∙ f.serial x) ∙ from_serial (form.serial x) in
         ap (λ a. read_as a (contents_of (written form x) t)) (written-accepted x v)
-        ∙ ap₂ (λ (key : Key) (k : ℕ). Fields (record { n = key.n; m = key.m; serial = k })) (starts x v) serial
+        ∙ ap₂ (λ (key : Key) (k : ℕ). Ok (record { n = key.n; m = key.m; serial = k })) (starts x v) serial
 
     written-injective : (x y : form.Data) → form.Limits x → form.Limits y → written form x ≡ written form y → x ≡ y
     written-injective x y v w e = laws.single x y (f.passing x v) (f.passing y w) (sym (back x v).same ∙ ap (λ s. cut s 0 (form.reader.rows s)) e ∙ (back y w).same)

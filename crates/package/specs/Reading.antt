@@ -1,38 +1,34 @@
 -- What the readers answer for any bytes, and the part that is handed back for a tag.
-use Rattle.std.specs.Prelude.{Bool, List, ◌≡◌, ℕ, ◌+◌}
+use Rattle.std.specs.Prelude.{Bool, List, ◌≡◌, ℕ, ◌+◌, Result, Ok, Err}
 use Rattle.std.specs.Borrow.{Bor}
 use Rattle.lists.specs.Words.{part}
 use Rattle.copying.specs.Words.{from_bytes}
-use Rattle.refusal.specs.Answer.{first_of}
-use Rattle.refusal.specs.declared.Answer.{Answer}
-use Rattle.refusal.specs.declared.Answer.TheVariants as answer
+use Rattle.refusal.specs.declared.Refusal.{Refusal}
+use Rattle.refusal.specs.Answer.{Answer, first_of, number_of as number}
 use Rattle.field.specs.declared.Level.{Level}
 use Rattle.layout.specs.declared.Row.{Row}
 use Rattle.layout.specs.declared.Part.{Part}
 use Rattle.layout.specs.Layout.{package_rows, package_tests, check_file_rows, check_file_tests}
 use Rattle.layout.specs.Tests.{key_of, empty, part_of}
 use Rattle.package.specs.declared.Contents.{Contents}
-use Rattle.package.specs.declared.Read.{Read}
-use Rattle.package.specs.declared.Read.TheVariants as read
 
 -- the paper's number of each answer of a reader: 0 is no refusal, and comes with n, m and the serial
-abbrev pub number_of : Read → ℕ
-number_of (read.Fields c) = 0
-number_of (read.Refused r) = r.number
+abbrev pub number_of : Result Contents Refusal → ℕ
+number_of answer = number answer
 
--- the answer of a reader, refusals with the paper's number
-abbrev pub read_as : Answer → Contents → Read
-read_as answer.Done c = read.Fields c
-read_as (answer.Refused r) c = read.Refused r
+-- the answer of a reader
+abbrev pub read_as : Answer → Contents → Result Contents Refusal
+read_as (Ok _) c = Ok c
+read_as (Err r) c = Err r
 
 abbrev pub part_if : Answer → Part → Part
-part_if answer.Done p = p
-part_if (answer.Refused r) p = empty
+part_if (Ok _) p = p
+part_if (Err r) p = empty
 
 -- how a form of file is read: the rows of its fields and its tests, both told by the bytes
 pub record Reader : Type 0 where
   pub rows : List ℕ → List Row
-  pub tests : List ℕ → List (Bool × ℕ)
+  pub tests : List ℕ → List (Bool × Refusal)
 
 abbrev pub package_reader : Level → Reader
 package_reader l = record { rows = package_rows l; tests = package_tests l }
@@ -50,7 +46,7 @@ contents_of s rows = record { n = (key_of s).n; m = (key_of s).m; serial = seria
 
 module _ (reader : Reader) (s : List ℕ) where
   -- "read package and read check file (answer n, m and the serial, or a refusal)"
-  abbrev pub reading : Read
+  abbrev pub reading : Result Contents Refusal
   reading = read_as (first_of (reader.tests s)) (contents_of s (reader.rows s))
 
   -- "for a refused package or an absent tag it hands back an empty part"

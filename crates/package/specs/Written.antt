@@ -1,5 +1,5 @@
 -- Packages and check files written by concatenation, without the reader, and what the reader owes to them.
-use Rattle.std.specs.Prelude.{◌≡◌, true, cond, List, [], ◌∷◌, ◌++◌, ℕ, ◌<◌, eqb, ltb, length}
+use Rattle.std.specs.Prelude.{◌≡◌, true, cond, List, [], ◌∷◌, ◌++◌, ℕ, ◌<◌, eqb, ltb, length, Ok}
 use Rattle.copying.specs.Words.{Bytes, two_bytes, four_bytes, word_bytes}
 use Rattle.field.specs.declared.Level.{Level}
 use Rattle.field.specs.Word.{within}
@@ -8,9 +8,7 @@ use Rattle.key.specs.declared.Key.{Key}
 use Rattle.key.specs.Key.{KeySlices, Sized, lengths, below}
 use Rattle.layout.specs.Tests.{zeros}
 use Rattle.lists.specs.Words.{part}
-use Rattle.refusal.specs.Answer.{first_of}
-use Rattle.refusal.specs.declared.Answer.TheVariants.{Done}
-use Rattle.package.specs.declared.Read.TheVariants.{Fields}
+use Rattle.refusal.specs.Answer.{first_of, Done}
 use Rattle.package.specs.Reading.{Reader, package_reader, check_file_reader, reading, field_part}
 
 -- "Fields are a one-byte tag, a two-byte length and the content": tags and contents, one field after the other
@@ -144,7 +142,7 @@ module _ (form : Form) where
   -- back their contents; no two fields are written alike
   pub record Faithful : Type 0 where
     pub accepted : (s : List ℕ) → Bytes s → Accepted s → (x : form.Data) × form.Limits x × (s ≡ written x)
-    pub read : (x : form.Data) → form.Limits x → reading form.reader (written x) ≡ Fields (record { n = (form.key x).n; m = (form.key x).m; serial = form.serial x })
+    pub read : (x : form.Data) → form.Limits x → reading form.reader (written x) ≡ Ok (record { n = (form.key x).n; m = (form.key x).m; serial = form.serial x })
     pub bytes : (x : form.Data) → form.Limits x → Bytes (written x)
     pub injective : (x y : form.Data) → form.Limits x → form.Limits y → written x ≡ written y → x ≡ y
     pub contents : (x : form.Data) → form.Limits x → (tag : ℕ) → handed (written x) tag ≡ content_of tag (form.fields x)

@@ -2,8 +2,6 @@
 // An element of K is printed as its coordinate 0, then each other coordinate c that is not zero as +cY^i.
 #![tactic(auto)]
 
-ghost use Rattle.std.specs.Prelude.{◌*◌, ◌<◌, length};
-
 use key::Key;
 use refusal::{Answer, Verdict};
 use std::{fmt, io};
@@ -15,12 +13,11 @@ const COORDINATES: usize = 12;
 #[derive(Clone, Copy)]
 struct Bytes<'a>(&'a [u8]);
 
-// Elements, each after a space: all of them for step 1, and for d + 1 the tops.
+// Elements, each after a space: the tops of polynomials of this degree, which for 0 are all of them.
 #[derive(Clone, Copy)]
 struct Elements<'a> {
     words: &'a [u16],
-    step: usize,
-    ghost some: { 0 < step },
+    degree: u8,
 }
 
 // The coordinates of an element.
@@ -102,8 +99,9 @@ impl fmt::Display for Coordinates<'_> {
 
 impl fmt::Display for Elements<'_> {
     fn fmt<W: fmt::Write>(&self, f: &mut fmt::Formatter<W>) -> fmt::Result {
+        let degree = usize::from(self.degree);
         for (i, element) in self.words.chunks_exact(COORDINATES).enumerate() {
-            if i % self.step == self.step - 1 {
+            if i % (degree + 1) == degree {
                 write!(f, "{}", Coordinates(element))?;
             }
         }
@@ -173,15 +171,15 @@ impl Statement<'_> {
 }
 
 impl Room<'_> {
-    // What constraints has written; d + 1 is step.
-    fn print_polynomials(&self, rt: &impl Print, step: usize) -> io::Result<()>
-        requires { 0 < step }
-    {
-        let t = Bytes(self.t);
-        let polynomials = all(self.polynomials);
-        let words = polynomials.words;
-        let tops = Elements { words, step };
-        print!(rt; ", t{t}, polynomials{polynomials}, tops{tops}")
+    // What constraints has written, for this d.
+    fn print_polynomials(&self, rt: &impl Print, degree: u8) -> io::Result<()> {
+        let words = &*self.polynomials;
+        let tops = Elements { words, degree };
+        print!(rt;
+            ", t{}, polynomials{}, tops{tops}",
+            Bytes(self.t),
+            all(words)
+        )
     }
 
     // What prove has written.
@@ -265,7 +263,7 @@ fn embedded<const N: usize>(numbers: &[u16]) -> [u16; N] {
 }
 
 fn all(words: &[u16]) -> Elements<'_> {
-    Elements { words, step: 1 }
+    Elements { words, degree: 0 }
 }
 
 fn key_a() -> Example {
@@ -292,21 +290,19 @@ fn product(rt: &impl Print, a: &[u16], b: &[u16]) -> io::Result<()> {
     println!(rt)
 }
 
-// What constraints answers and writes, and then prove, a line each; d + 1 is step.
+// What constraints answers and writes, and then prove, a line each, for this d.
 fn proving(
     rt: &impl Print,
     name: &str,
     statement: &Statement,
     prover: &Prover,
     room: &mut Room,
-    step: usize,
-) -> io::Result<()>
-    requires { 0 < step }
-{
+    degree: u8,
+) -> io::Result<()> {
     let positions = Bytes(prover.positions);
     print!(rt; "{name}, positions{positions}, constraints:")?;
     if statement.constraints(rt, prover, room)? {
-        room.print_polynomials(rt, step)?;
+        room.print_polynomials(rt, degree)?;
     }
     print!(rt; "\n{name}, positions{positions}, prove:")?;
     if statement.prove(rt, prover, room)? {
@@ -329,7 +325,7 @@ fn prove_a(rt: &impl Print, name: &str, y: u16, positions: &[u8]) -> io::Result<
         &example.statement(),
         &example.prover(positions),
         &mut room,
-        2,
+        1,
     )
 }
 
@@ -373,7 +369,7 @@ fn prove_three(rt: &impl Print, name: &str, y: u16, positions: &[u8]) -> io::Res
         polynomials: &mut [0; 144],
         a: &mut [0; 24],
     };
-    proving(rt, name, &statement, &prover, &mut room, 3)
+    proving(rt, name, &statement, &prover, &mut room, 2)
 }
 
 // The answers of constraints and prove.
@@ -432,17 +428,16 @@ fn limits<F: Fn(&mut Example, u16)>(rt: &impl Print, name: &str, set: F) -> io::
     Ok(())
 }
 
-// H for n = 64 and m = 63, from zeros: one at column e of row e.
-fn units(h: &mut [u16])
-    requires { 65 * 62 < length h.old }
-{
-    for e in 0..63usize {
-        h[65 * e] = 1;
+// H for n = 64 and m = 63: one at column e of row e, and zero elsewhere.
+fn units() -> [u16; 4032] {
+    let mut h = [0u16; 4032];
+    for e in 0..63 {
+        h[64 * e + e] = 1;
     }
+    h
 }
 
-// n = 64, m = 63: row e of H is one at column e and zero elsewhere, x, y and u are zero, positions 0 to 63, and v and the weights have two words
-// that are not zero.
+// n = 64, m = 63: x, y and u are zero, positions 0 to 63, and v and the weights have two words that are not zero.
 fn largest(rt: &impl Print) -> io::Result<()> {
     let mut positions = [0u8; 64];
     for (position, i) in positions.iter_mut().zip(0..64u8) {
@@ -454,12 +449,10 @@ fn largest(rt: &impl Print) -> io::Result<()> {
     let mut alpha = [0u16; 1524];
     alpha[0] = 1;
     alpha[1512] = 2;
-    let mut h = [0u16; 4032];
-    units(&mut h);
     let masks = [0u16; 60];
     let statement = Statement {
         key: Key { n: 64, m: 63 },
-        h: &h,
+        h: &units(),
         x: &[0; 64],
         y: &[0; 63],
         alpha: &alpha,

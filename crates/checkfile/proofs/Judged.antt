@@ -6,8 +6,7 @@ use native.Mathlib.Omega.{arith}
 use Rattle.lists.specs.Lent.{long}
 use Rattle.lists.proofs.Lent.{Long, long-each}
 use Rattle.copying.specs.Words.{Bytes}
-use Rattle.refusal.specs.Answer.{first_of}
-use Rattle.refusal.specs.declared.Answer.TheVariants.{Done}
+use Rattle.refusal.specs.Answer.{first_of, Done}
 use Rattle.refusal.specs.declared.Verdict.{Verdict}
 use Rattle.refusal.specs.declared.Verdict.TheVariants as verdict
 use Rattle.field.specs.Level.{FIRST, level_at}
@@ -52,12 +51,12 @@ never_refused k g c v =
 accepted_verdict : (c : Contents) (v : Verdict) → answered (Fields c) v ≡ Accepted c → v ≡ verdict.Accepted
 accepted_verdict c verdict.Accepted e = refl
 accepted_verdict c verdict.Rejected e = let z : ◌≡◌ {A = ℕ} 0 1 = cc in absurd (omega arith)
-accepted_verdict c (verdict.Refused r) e = let z : ◌≡◌ {A = ℕ} 0 1 = cc in absurd (omega arith)
+accepted_verdict c (verdict.Err r) e = let z : ◌≡◌ {A = ℕ} 0 1 = cc in absurd (omega arith)
 
 rejected_verdict : (c : Contents) (v : Verdict) → answered (Fields c) v ≡ Rejected c → v ≡ verdict.Rejected
 rejected_verdict c verdict.Accepted e = let z : ◌≡◌ {A = ℕ} 0 1 = cc in absurd (omega arith)
 rejected_verdict c verdict.Rejected e = refl
-rejected_verdict c (verdict.Refused r) e = let z : ◌≡◌ {A = ℕ} 0 1 = cc in absurd (omega arith)
+rejected_verdict c (verdict.Err r) e = let z : ◌≡◌ {A = ℕ} 0 1 = cc in absurd (omega arith)
 
 pub judged : (s : List ℕ) → Bytes s → (c : Contents) → reading (check_file_reader (level_at FIRST)) s ≡ Fields c → Judged (level_at FIRST) s c
 judged s b c e =

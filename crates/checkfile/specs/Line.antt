@@ -1,8 +1,11 @@
 -- The line that perkcheck prints, as ASCII codes.
-use Rattle.std.specs.Prelude.{◌≡◌, cond, List, [], ◌∷◌, ◌++◌, ℕ, zero, suc, ◌+◌, ◌-◌, ◌*◌, ◌/◌, ◌%◌, ◌≤◌, ◌<◌, eqb, ltb, length, get_or, drop}
+use Rattle.std.specs.Prelude.{◌≡◌, cond, List, [], ◌∷◌, ◌++◌, ℕ, zero, suc, ◌+◌, ◌-◌, ◌*◌, ◌/◌, ◌%◌, ◌≤◌, ◌<◌, eqb, ltb, length, get_or, drop, Result, Ok, Err}
 use Rattle.package.specs.declared.Contents.{Contents}
 use Rattle.checkfile.specs.declared.Checked.{Checked}
-use Rattle.checkfile.specs.declared.Checked.TheVariants.{Accepted, Rejected, Refused}
+use Rattle.refusal.specs.declared.Refusal.{Refusal}
+use Rattle.refusal.specs.declared.Verdict.{Verdict}
+use Rattle.refusal.specs.declared.Verdict.TheVariants.{Accepted, Rejected}
+use Rattle.refusal.specs.Answer.{number}
 
 -- the number that digits make after a number v, highest digit first; the code of digit 0 is 48
 unfoldable pub value_from : ℕ → List ℕ → ℕ
@@ -44,6 +47,10 @@ rejected_text = 114 ∷ 101 ∷ 106 ∷ 101 ∷ 99 ∷ 116 ∷ 101 ∷ 100 ∷ [
 abbrev pub refused_text : List ℕ
 refused_text = 114 ∷ 101 ∷ 102 ∷ 117 ∷ 115 ∷ 101 ∷ 100 ∷ []
 
+abbrev pub verdict_text : Verdict → List ℕ
+verdict_text Accepted = accepted_text
+verdict_text Rejected = rejected_text
+
 -- "Words and numbers are parted by one space": each with a space after it
 abbrev pub spaced : List (List ℕ) → List ℕ
 spaced [] = []
@@ -54,11 +61,10 @@ abbrev pub said_of : Contents → List ℕ
 said_of c = spaced (serial_text ∷ decimal c.serial ∷ n_text ∷ decimal c.n ∷ m_text ∷ decimal c.m ∷ [])
 
 -- "and `accepted` or `rejected`; or `refused` and the number in decimal", and "a line end follows"
-unfoldable pub line_of : Checked → List ℕ
-line_of (Accepted c) = said_of c ++ (accepted_text ++ (10 ∷ []))
-line_of (Rejected c) = said_of c ++ (rejected_text ++ (10 ∷ []))
-line_of (Refused r) = spaced (refused_text ∷ []) ++ (decimal r.number ++ (10 ∷ []))
+unfoldable pub line_of : Result Checked Refusal → List ℕ
+line_of (Ok c) = said_of c.contents ++ (verdict_text c.verdict ++ (10 ∷ []))
+line_of (Err r) = spaced (refused_text ∷ []) ++ (decimal (number r) ++ (10 ∷ []))
 
 -- the length of the line, and the line at the start of s; 0, and s as it is, where s has no room for every line
-abbrev pub printed : Checked → List ℕ → ℕ × List ℕ
+abbrev pub printed : Result Checked Refusal → List ℕ → ℕ × List ℕ
 printed checked s = cond (ltb (length s) 96) (0, s) (length (line_of checked), line_of checked ++ drop (length (line_of checked)) s)

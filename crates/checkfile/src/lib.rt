@@ -15,7 +15,7 @@ ghost use Rattle.checkfile.specs.Line.{decimal, said_of, printed};
 
 use key::Key;
 use layout::Row;
-use package::{Contents, Read};
+use package::Contents;
 use refusal::{Refusal, Verdict};
 
 // Words of room for H, x, y, the proof, q, the mask numbers, one element of K and the weights, at n = 64 and m = 63.
@@ -38,22 +38,20 @@ const VALUES: usize = 1524;
 // Bytes of room for a line: none is longer, whatever its numbers.
 pub const LINE: usize = 96;
 
-// What checking a file answers.
-#[derive(Clone, Copy)]
-pub enum Checked {
-    Accepted(Contents),
-    Rejected(Contents),
-    Refused(Refusal),
+// What checking a file tells: what the file says of itself, and the verdict on its proof.
+#[derive(Clone, Copy, Debug, PartialEq, Eq)]
+pub struct Checked {
+    pub contents: Contents,
+    pub verdict: Verdict,
 }
 
 // The answer's number: 0 for accepted, 255 for rejected, else the refusal's.
-pub fn number(checked: Checked) -> u32
+pub fn number(checked: Result<Checked, Refusal>) -> u32
     ensures { result ≡ check_number checked }
 {
     match checked {
-        Checked::Accepted(_) => 0,
-        Checked::Rejected(_) => 255,
-        Checked::Refused(refusal) => refusal.number,
+        Ok(file) => refusal::verdict_number(Ok(file.verdict)),
+        Err(refusal) => refusal.number(),
     }
 }
 
@@ -66,7 +64,7 @@ fn load(bytes: &[u8], tag: u8, out: &mut [u16]) -> usize
 }
 
 // The verdict on an accepted check file whose H, x, y and a are lent as words.
-fn judge_with(bytes: &[u8], key: Key, h: &[u16], x: &[u16], y: &[u16], a: &[u16]) -> Verdict
+fn judge_with(bytes: &[u8], key: Key, h: &[u16], x: &[u16], y: &[u16], a: &[u16]) -> Result<Verdict, Refusal>
     requires { Accepts (level_at FIRST) bytes.now }
     ensures { result ≡ verify_outcome (level_at FIRST) key (key_slices h.now x.now y.now) (content (level_at FIRST) bytes.now 0x06) (words (content (level_at FIRST) bytes.now 0x11)) (words (content (level_at FIRST) bytes.now 0x13)) (words (content (level_at FIRST) bytes.now 0x12)) (words (content (level_at FIRST) bytes.now 0x14)) a.now }
 {
@@ -94,7 +92,7 @@ fn judge_with(bytes: &[u8], key: Key, h: &[u16], x: &[u16], y: &[u16], a: &[u16]
 }
 
 // The verdict on an accepted check file with this key. Where field 04 is absent the room for y stays zero.
-fn judge(bytes: &[u8], key: Key) -> Verdict
+fn judge(bytes: &[u8], key: Key) -> Result<Verdict, Refusal>
     requires { Accepts (level_at FIRST) bytes.now × (key ≡ key_of bytes.now) }
     ensures { result ≡ verdict_of (level_at FIRST) (key_data_of (check_form (level_at FIRST)) bytes.now) (group_of (check_form (level_at FIRST)) bytes.now) (check_of (level_at FIRST) bytes.now) }
 {
@@ -111,23 +109,16 @@ fn judge(bytes: &[u8], key: Key) -> Verdict
 }
 
 // Whether a check file's proof is accepted, with what the file says of itself, or the reader's refusal.
-pub fn check(bytes: &[u8]) -> Checked
+pub fn check(bytes: &[u8]) -> Result<Checked, Refusal>
     ensures { result ≡ checking (level_at FIRST) bytes.now }
 {
-    match package::read_check_file(bytes) {
-        Read::Refused(refusal) => Checked::Refused(refusal),
-        Read::Fields(contents) => {
-            let key = Key {
-                n: contents.n,
-                m: contents.m,
-            };
-            match judge(bytes, key) {
-                Verdict::Accepted => Checked::Accepted(contents),
-                Verdict::Rejected => Checked::Rejected(contents),
-                Verdict::Refused(refusal) => Checked::Refused(refusal),
-            }
-        }
-    }
+    let contents = package::read_check_file(bytes)?;
+    let key = Key {
+        n: contents.n,
+        m: contents.m,
+    };
+    let verdict = judge(bytes, key)?;
+    Ok(Checked { contents, verdict })
 }
 
 // The last decimal digit.
@@ -170,7 +161,7 @@ fn put_contents(contents: Contents, out: &mut [u8]) -> usize
     ensures { (out.new ≡ put 0 (said_of contents) out.old) × (result ≡ length (said_of contents)) × (result ≤ 74) }
 {
     let at = put_text(b"serial", b' ', 0, out);
-    let at = put_number(contents.serial as u64, b' ', at, out);
+    let at = put_number(u64::from(contents.serial), b' ', at, out);
     let at = put_text(b"n", b' ', at, out);
     let at = put_number(contents.n as u64, b' ', at, out);
     let at = put_text(b"m", b' ', at, out);
@@ -178,7 +169,7 @@ fn put_contents(contents: Contents, out: &mut [u8]) -> usize
 }
 
 // The line for an answer, at the start of out; answers its length. Without room for a line it writes nothing and answers 0.
-pub fn line(checked: Checked, out: &mut [u8]) -> usize
+pub fn line(checked: Result<Checked, Refusal>, out: &mut [u8]) -> usize
     ensures printed { (result, out.new) ≡ printed checked out.old }
     ensures fits { (result ≤ length out.new) × (result ≡ length (take result out.new)) }
 {
@@ -186,17 +177,16 @@ pub fn line(checked: Checked, out: &mut [u8]) -> usize
         return 0;
     }
     match checked {
-        Checked::Accepted(contents) => {
-            let at = put_contents(contents, out);
-            put_text(b"accepted", b'\n', at, out)
+        Ok(file) => {
+            let at = put_contents(file.contents, out);
+            match file.verdict {
+                Verdict::Accepted => put_text(b"accepted", b'\n', at, out),
+                Verdict::Rejected => put_text(b"rejected", b'\n', at, out),
+            }
         }
-        Checked::Rejected(contents) => {
-            let at = put_contents(contents, out);
-            put_text(b"rejected", b'\n', at, out)
-        }
-        Checked::Refused(refusal) => {
+        Err(refusal) => {
             let at = put_text(b"refused", b' ', 0, out);
-            put_number(refusal.number as u64, b'\n', at, out)
+            put_number(u64::from(refusal.number()), b'\n', at, out)
         }
     }
 }

@@ -1,10 +1,10 @@
 -- What prove has written is accepted, from what prove and verify promise.
+use Rattle.std.specs.Prelude.{Err}
+use Rattle.refusal.specs.declared.Refusal.TheVariants.{Top, SpareCode}
 use mathlib.Core.Path.{◌≡◌, ◌∙◌, ap}
 use mathlib.Core.List.{List}
 use Prim.Native.Nat.{ℕ}
-use Rattle.refusal.specs.Answer.{refusal}
-use Rattle.refusal.specs.declared.Answer.{Answer}
-use Rattle.refusal.specs.declared.Answer.TheVariants.{Done}
+use Rattle.refusal.specs.Answer.{Answer, Done}
 use Rattle.refusal.specs.declared.Verdict.{Verdict}
 use Rattle.refusal.specs.declared.Verdict.TheVariants.{Accepted}
 use Rattle.refusal.proofs.Answers.{both_done}
@@ -18,7 +18,7 @@ use Rattle.verifier.specs.Complete.{HonestVerifier}
 use Rattle.verifier.proofs.Completeness.{completeness}
 
 pub accepted : (number : ℕ) (key : Key) (lent : KeySlices) (positions u v r s α t a q Δ masks : List ℕ) {answer : Answer} {t' a' : List ℕ} {verdict : Verdict}
-    → (answer, (t', a')) ≡ prove_outcome (level_at number) key lent positions u v r s α t a → Solved (level_at number) key lent positions u v r s α t a (answer ≡ Done) (answer ≡ refusal 8) (answer ≡ refusal 16) → verdict ≡ verify_outcome (level_at number) key lent t' q Δ masks α a'
+    → (answer, (t', a')) ≡ prove_outcome (level_at number) key lent positions u v r s α t a → Solved (level_at number) key lent positions u v r s α t a (answer ≡ Done) (answer ≡ (Err Top)) (answer ≡ (Err SpareCode)) → verdict ≡ verify_outcome (level_at number) key lent t' q Δ masks α a'
     → answer ≡ Done → HonestVerifier (level_at number) key lent u v r s q Δ masks → verdict ≡ Accepted
 accepted number key lent positions u v r s α t a q Δ masks e p f done honest =
     let known = p.done.0 done in

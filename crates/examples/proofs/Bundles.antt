@@ -19,7 +19,7 @@ use Rattle.bundle.specs.Written.{written}
 use Rattle.bundle.proofs.Steps.{read-accepts}
 use Rattle.bundle.proofs.Faithful.{map-length}
 use Rattle.joining.specs.declared.Joined.{Joined}
-use Rattle.joining.specs.declared.Joined.TheVariants.{Size, Refused}
+use Rattle.joining.specs.declared.Joined.TheVariants.{Size, Err}
 use Rattle.joining.specs.declared.Size as size
 use Rattle.joining.specs.Entry.{number_of, joined_bundle, join_answer, join_outcome}
 use Rattle.joining.proofs.Laws.{joins_itself}
@@ -39,15 +39,15 @@ again s out b e c f h =
 module _ (s t out : List ℕ) (room : ℕ) where
   -- one of the two, by a test of the length
   abbrev at : size.Size → Bool → Joined
-  at z b = cond b (Refused (record { number = 13 })) (Size z)
+  at z b = cond b (Err (record { number = 13 })) (Size z)
 
-  pub look-refused : Bytes s → Bytes t → length s + length t ≤ room → {k : Refusal} → Refused k ≡ join_answer (level_at FIRST) s t room → (k.number ≡ 13 → ⊥) × ((Refused k, out) ≡ join_outcome (level_at FIRST) s t out)
+  pub look-refused : Bytes s → Bytes t → length s + length t ≤ room → {k : Refusal} → Err k ≡ join_answer (level_at FIRST) s t room → (k.number ≡ 13 → ⊥) × ((Err k, out) ≡ join_outcome (level_at FIRST) s t out)
   look-refused b c h {k} e =
       let never : k.number ≡ 13 → ⊥ = λ f. omega (arith, h, look-laws.enough s t b c room (ap number_of (sym e) ∙ f)) in
       (never, left-refused s t out (look-laws.refused s t room k (sym e) never (length out)))
 
   module _ {z : size.Size} (e : Size z ≡ join_answer (level_at FIRST) s t room) where
-    pub look-short : length out < z.length → ((Refused (record { number = 13 }), out) ≡ join_outcome (level_at FIRST) s t out) × ((x : size.Size) × (x.length ≡ z.length) × (join_answer (level_at FIRST) s t z.length ≡ Size x))
+    pub look-short : length out < z.length → ((Err (record { number = 13 }), out) ≡ join_outcome (level_at FIRST) s t out) × ((x : size.Size) × (x.length ≡ z.length) × (join_answer (level_at FIRST) s t z.length ≡ Size x))
     look-short h = (
       left-refused s t out (look-laws.told s t room z (sym e) (length out) ∙ ap (at z) (lt-ltb (length out) z.length h)),
       (z, refl, look-laws.told s t room z (sym e) z.length ∙ ap (at z) (le-ltb z.length z.length (omega arith))),

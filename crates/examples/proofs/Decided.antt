@@ -1,4 +1,6 @@
 -- What prove answers and leaves for a key in bare numbers; for n = 3 and positions 0 1 3, it answers 16.
+use Rattle.std.specs.Prelude.{Err}
+use Rattle.refusal.specs.declared.Refusal.TheVariants.{Top, SpareCode}
 use mathlib.Core.Path.{◌≡◌, refl}
 use mathlib.Core.List.{List, [], ◌∷◌, ◌++◌}
 use Prim.Native.Nat.{ℕ}
@@ -6,8 +8,7 @@ use native.Mathlib.Omega.{arith}
 use lib.Count.{count_leading_zeros}
 use lib.ListN.{replicate}
 use Rattle.lists.specs.Words.{all}
-use Rattle.refusal.specs.Answer.{first_of, refusal}
-use Rattle.refusal.specs.declared.Answer.TheVariants.{Done}
+use Rattle.refusal.specs.Answer.{first_of, Done}
 use Rattle.refusal.proofs.Answers.{result_of}
 use Rattle.field.specs.Level.{FIRST, first, level_at, F}
 use Rattle.field.specs.Word.{within, small_at, small, word, digits, number}
@@ -46,11 +47,11 @@ module _ (key : Numbers) (positions : List ℕ) where
   unfolding prove_of prove_outcome level_at
   answers_done e p = (solved FIRST (sizes key) lent positions u (bares v) (bares r) (bares s) (bares α) (t₀ key) (a₀ key) refl).done.1 (passes FIRST (sizes key) lent positions u (bares v) (bares r) (bares s) (bares α) (t₀ key) (a₀ key) e p, p)
 
-  pub answers_8 : PassesAll → (Solving → ⊥) → (prove_of key positions).0 ≡ refusal 8
+  pub answers_8 : PassesAll → (Solving → ⊥) → (prove_of key positions).0 ≡ (Err Top)
   unfolding prove_of prove_outcome level_at
   answers_8 e p = (solved FIRST (sizes key) lent positions u (bares v) (bares r) (bares s) (bares α) (t₀ key) (a₀ key) refl).eight.1 (e, p)
 
-  pub answers_16 : Passes → HasSpare (sizes key).n positions → (prove_of key positions).0 ≡ refusal 16
+  pub answers_16 : Passes → HasSpare (sizes key).n positions → (prove_of key positions).0 ≡ (Err SpareCode)
   unfolding prove_of prove_outcome level_at
   answers_16 e p = (solved FIRST (sizes key) lent positions u (bares v) (bares r) (bares s) (bares α) (t₀ key) (a₀ key) refl).sixteen.1 (e, p)
 
@@ -60,5 +61,5 @@ module _ (key : Numbers) (positions : List ℕ) where
       (prove_result first (sizes key) lent positions u (bares v) (bares r) (bares s) (bares α)) (t₀ key, a₀ key) refl e
 
 -- the last of the positions 0 1 3 is a spare code
-pub three_16 : (prove_of three (0 ∷ 1 ∷ 3 ∷ [])).0 ≡ refusal 16
+pub three_16 : (prove_of three (0 ∷ 1 ∷ 3 ∷ [])).0 ≡ (Err SpareCode)
 three_16 = answers_16 three (0 ∷ 1 ∷ 3 ∷ []) (unfold bares degree count_leading_zeros below codes_of code_of within all rank_of rank count after column pivot lowest is_zero small_at small word digits number F in refl) (2, omega arith, unfold code_of degree count_leading_zeros in refl)

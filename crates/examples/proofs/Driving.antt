@@ -1,4 +1,7 @@
 -- Looking before proving, of the contracts and the laws.
+use Rattle.refusal.specs.declared.Refusal.{Refusal}
+use Rattle.std.specs.Prelude.{Err}
+use Rattle.refusal.specs.declared.Refusal.TheVariants.{SliceLength, KeyElement, Bit, Coordinate, Position, DependentRows, SpareCode}
 use mathlib.Core.Path.{◌≡◌, refl, sym, ap, ◌∙◌}
 use mathlib.Core.Bool.{Bool, not, false≢true}
 use mathlib.Core.List.{List, [], ◌∷◌, ◌++◌}
@@ -7,9 +10,7 @@ use native.Mathlib.Omega.{arith}
 use borrow.Author.Tests.{not-false, ltb-false}
 use Rattle.lists.specs.Lent.{long}
 use Rattle.lists.proofs.Lent.{each_long}
-use Rattle.refusal.specs.Answer.{refusal, first_of}
-use Rattle.refusal.specs.declared.Answer.{Answer}
-use Rattle.refusal.specs.declared.Answer.TheVariants.{Done}
+use Rattle.refusal.specs.Answer.{first_of, Answer, Done}
 use Rattle.refusal.proofs.Answers.{none}
 use Rattle.field.specs.declared.Level.{Level}
 use Rattle.field.specs.Level.{level_at}
@@ -49,12 +50,12 @@ module _ (number : ℕ) (key : Key) (lent : KeySlices) (positions u v r s α t a
       told.order.1 (fine-done l key.n positions (record { two = f.is-sized.two; most = f.is-sized.most; positions-length = f.positions-length }), z.1.0)
 
   -- the rows before that of 7
-  abbrev before : List (Bool × ℕ)
-  before = sizes l key ++ ((not (long (prove_lent (lengths l key) lent positions u v r s α t a)), 3) ∷ (not (key_within l lent), 4) ∷ (short l key.n key.m lent.h, 15) ∷ (not (below 1 u), 5) ∷ (not (withins l (v ∷ r ∷ s ∷ α ∷ [])), 6) ∷ [])
+  abbrev before : List (Bool × Refusal)
+  before = sizes l key ++ ((not (long (prove_lent (lengths l key) lent positions u v r s α t a)), SliceLength) ∷ (not (key_within l lent), KeyElement) ∷ (short l key.n key.m lent.h, DependentRows) ∷ (not (below 1 u), Bit) ∷ (not (withins l (v ∷ r ∷ s ∷ α ∷ [])), Coordinate) ∷ [])
 
   -- of an order it never answers 7 or 16
   module _ (is : Order key.n (position_at positions)) {o : Answer} {left : List ℕ × List ℕ} (e : (o, left) ≡ prove_outcome (level_at number) key lent positions u v r s α t a) where
-    pub not_seven : o ≡ refusal 7 → ⊥
+    pub not_seven : o ≡ (Err Position) → ⊥
     not_seven d =
         let c = codes_of key.n positions in
         let b = decides before (is_too_large c) 7 (spare_row c ++ tops_row l key lent positions v) no_7 (λ z. omega (arith, z), (λ z. omega (arith, z), tt)) (sym (answered e) ∙ d) in
@@ -63,10 +64,10 @@ module _ (number : ℕ) (key : Key) (lent : KeySlices) (positions u v r s α t a
         let fits = degree-fits key.n (omega (arith, ltb-false l.most key.n f.1.0, (bounded number).most)) in
         false≢true (sym (ap is_too_large (columns key.n fits positions (λ i h. order_below (position_at positions) key.n is i (omega (arith, long))))) ∙ b.1)
       where
-        no_7 : Others 7 before
+        no_7 : Others Position before
         no_7 = (λ z. omega (arith, z), (λ z. omega (arith, z), (λ z. omega (arith, z), (λ z. omega (arith, z), (λ z. omega (arith, z), (λ z. omega (arith, z), (λ z. omega (arith, z), (λ z. omega (arith, z), (λ z. omega (arith, z), tt)))))))))
 
-    pub not-sixteen : o ≡ refusal 16 → ⊥
+    pub not-sixteen : o ≡ (Err SpareCode) → ⊥
     not-sixteen d =
         let at = ((solved number key lent positions u v r s α t a (answered e)).sixteen.0 d).1 in
         false≢true (ap is_spare (sym (code-column key.n (position_at positions at.0) (order_below (position_at positions) key.n is at.0 at.1)) ∙ at.2))

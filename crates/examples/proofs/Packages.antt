@@ -12,7 +12,7 @@ use Rattle.layout.specs.declared.Part.{Part}
 use Rattle.layout.specs.Tests.{key_of}
 use Rattle.package.specs.declared.Contents.{Contents}
 use Rattle.package.specs.declared.Read.{Read}
-use Rattle.package.specs.declared.Read.TheVariants.{Fields, Refused}
+use Rattle.package.specs.declared.Read.TheVariants.{Fields, Err}
 use Rattle.package.specs.Reading.{package_reader, reading, field_part}
 use Rattle.package.specs.Written.{content_of, package_form, Accepted}
 use Rattle.package.specs.Said.{group_of}
@@ -27,7 +27,7 @@ use Rattle.writer.specs.Laws.{ReadBack}
 -- the length that an answer carries
 abbrev value : Written → ℕ
 value (written.Length n) = n
-value (written.Refused q) = 0
+value (written.Err q) = 0
 
 -- the reader's answer r and the part p that it finds, for the first len bytes
 pub carried : (key : Key) (lent : KeySlices) (serial : ℕ) (t a : List ℕ) (tag : ℕ) (out : List ℕ) (len : ℕ) {r : Read} {p : Part} → ReadBack (level_at FIRST) key lent serial t a len out
@@ -38,7 +38,7 @@ carried key lent serial t a tag out len b e f k g = (e ∙ b.read, ap₂ (λ (q 
 -- the serial that an answer carries
 abbrev serial_of : Read → ℕ
 serial_of (Fields c) = c.serial
-serial_of (Refused r) = 0
+serial_of (Err r) = 0
 
 -- a package for which the reader answers c
 module _ (s : List ℕ) (b : Bytes s) (c : Contents) (e : reading (package_reader (level_at FIRST)) s ≡ Fields c) where

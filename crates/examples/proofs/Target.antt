@@ -1,12 +1,13 @@
 -- The examples with a target hold, all together.
+use Rattle.std.specs.Prelude.{Err}
+use Rattle.refusal.specs.declared.Refusal.TheVariants.{Top}
 use mathlib.Core.Path.{◌≡◌, refl, ap, ◌∙◌}
 use mathlib.Core.List.{List, [], ◌∷◌, map}
 use Prim.Native.Nat.{ℕ, zero, suc}
 use native.Mathlib.Omega.{arith}
 use lib.Count.{count_leading_zeros}
 use Rattle.lists.specs.Words.{all, concat}
-use Rattle.refusal.specs.Answer.{refusal}
-use Rattle.refusal.specs.declared.Answer.TheVariants.{Done}
+use Rattle.refusal.specs.Answer.{Done}
 use Rattle.field.specs.Vector.{zeros as 𝟘s, unit, sum, scale, push, top}
 use Rattle.field.specs.Quotient.{rule, times_x, horner, times}
 use Rattle.field.specs.Level.{first, F}
@@ -50,7 +51,7 @@ proof-left = ap (λ (p : List ℕ × List ℕ). p.1) (left A₅ (1 ∷ 0 ∷ [])
     small word digits number vector F times horner times_x rule 𝟘s unit sum scale push top in refl
 
 -- in the order 0 1 it is 0
-other_8 : (prove_of A₅ (0 ∷ 1 ∷ [])).0 ≡ refusal 8
+other_8 : (prove_of A₅ (0 ∷ 1 ∷ [])).0 ≡ (Err Top)
 other_8 = answers_8 A₅ (0 ∷ 1 ∷ []) passes unsolved
   where
     passes : PassesAll A₅ (0 ∷ 1 ∷ [])

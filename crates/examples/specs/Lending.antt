@@ -1,10 +1,10 @@
 -- What a caller is told that looks before it joins, and lends no more than is needed.
-use Rattle.std.specs.Prelude.{◌≡◌, List, ℕ}
+use Rattle.std.specs.Prelude.{◌≡◌, List, ℕ, Ok, Err}
 use Rattle.field.specs.declared.Level.{Level}
-use Rattle.joining.specs.declared.Joined.TheVariants.{Refused}
-use Rattle.joining.specs.declared.Joined.TheVariants as joined
+use Rattle.refusal.specs.declared.Refusal.TheVariants.{ShortOutput}
+use Rattle.refusal.specs.Answer.{number_of}
 use Rattle.joining.specs.declared.Size.{Size}
-use Rattle.joining.specs.Entry.{number_of, join_answer, join_outcome}
+use Rattle.joining.specs.Entry.{join_answer, join_outcome}
 use Rattle.examples.specs.declared.Lent.{Lent}
 use Rattle.examples.specs.declared.Lent.TheVariants.{Joined, Short}
 
@@ -13,4 +13,4 @@ use Rattle.examples.specs.declared.Lent.TheVariants.{Joined, Short}
 abbrev pub LentExactly : (l : Level) (first second out left : List ℕ) → Lent → Type 0
 LentExactly l first second out left (Joined answer) = (number_of answer ≡ 13 → ⊥) × ((answer, left) ≡ join_outcome l first second out)
 LentExactly l first second out left (Short needed) =
-    ((Refused (record { number = 13 }), left) ≡ join_outcome l first second out) × ((size : Size) × (size.length ≡ needed) × (join_answer l first second needed ≡ joined.Size size))
+    ((Err ShortOutput, left) ≡ join_outcome l first second out) × ((size : Size) × (size.length ≡ needed) × (join_answer l first second needed ≡ Ok size))

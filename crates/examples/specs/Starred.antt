@@ -3,9 +3,8 @@ use Rattle.std.specs.Prelude.{List, [], ◌∷◌, ◌++◌, ℕ, suc, ◌+◌, 
 use Rattle.lists.specs.Words.{part, concat}
 use Rattle.field.specs.Level.{first, F, K}
 use Rattle.field.specs.Word.{small, word, element, words}
-use Rattle.refusal.specs.Answer.{number_of}
+use Rattle.refusal.specs.Answer.{number_of, Answer}
 use Rattle.refusal.specs.Verdict.{verdict_number}
-use Rattle.refusal.specs.declared.Answer.{Answer}
 use Rattle.refusal.specs.declared.Verdict.{Verdict}
 use Rattle.key.specs.declared.Key.{Key}
 use Rattle.key.specs.Key.{degree, KeySlices, key_slices, lengths}

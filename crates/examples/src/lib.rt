@@ -4,7 +4,7 @@
 
 ghost use Rattle.std.specs.Prelude.{◌≡◌, ◌++◌, ℕ, ◌+◌, ◌≤◌, ◌<◌, length, take, drop};
 ghost use Rattle.lists.specs.Words.{part};
-ghost use Rattle.refusal.specs.declared.Answer.TheVariants.{Done};
+ghost use Rattle.refusal.specs.Answer.{Done};
 ghost use Rattle.refusal.specs.declared.Verdict.TheVariants.{Accepted};
 ghost use Rattle.field.specs.Level.{FIRST, level_at};
 ghost use Rattle.key.specs.Key.{key_slices};
@@ -12,29 +12,23 @@ ghost use Rattle.constraints.specs.Slices.{element_at, system_of};
 ghost use Rattle.constraints.specs.Truth.{HonestNumbers, evaluated};
 ghost use Rattle.verifier.specs.Complete.{HonestVerifier};
 ghost use Rattle.package.specs.declared.Contents.{Contents};
-ghost use Rattle.package.specs.declared.Read.TheVariants.{Fields};
 ghost use Rattle.package.specs.Reading.{package_reader, reading};
 ghost use Rattle.package.specs.Written.{content_of, package_form};
 ghost use Rattle.package.specs.Said.{key_data_of, group_of};
 ghost use Rattle.layout.specs.Tests.{key_of};
 ghost use Rattle.bundle.specs.declared.Contents.{Contents as Groups};
-ghost use Rattle.bundle.specs.declared.Read.TheVariants as bundle;
 ghost use Rattle.bundle.specs.Reading.{reading as readingBundle};
 ghost use Rattle.joining.specs.declared.Size.{Size};
-ghost use Rattle.joining.specs.declared.Joined.TheVariants as joined;
-ghost use Rattle.writer.specs.declared.Written.TheVariants.{Length};
 ghost use Rattle.writer.specs.Entry.{data_of, write_outcome};
 ghost use Rattle.examples.specs.Lending.{LentExactly};
 ghost use Rattle.examples.specs.Driving.{LooksFirst};
 
 use elimination::MATRIX;
-use joining::Joined;
+use joining::Size;
 use key::Key;
 use layout::{Part, Row};
-use order::Looked;
-use package::{Contents, Read};
+use package::Contents;
 use refusal::{Answer, Refusal, Verdict};
-use writer::Written;
 
 #[derive(Clone, Copy)]
 pub struct Answers {
@@ -70,7 +64,7 @@ pub fn agreement(
 #[derive(Clone, Copy)]
 pub struct Judgement {
     pub prove: Answer,
-    pub verify: Verdict,
+    pub verify: Result<Verdict, Refusal>,
 }
 
 // Completeness: wherever prove is done and the verifier is honest, what prove has written is accepted.
@@ -91,7 +85,7 @@ pub fn completeness(
     delta: &[u16],
     masks: &[u16],
 ) -> Judgement
-    ensures { result.prove ≡ Done → HonestVerifier (level_at FIRST) key (key_slices h.now x.now y.now) u.now v.now r.now s.now q.now delta.now masks.now → result.verify ≡ Accepted }
+    ensures { result.prove ≡ Done → HonestVerifier (level_at FIRST) key (key_slices h.now x.now y.now) u.now v.now r.now s.now q.now delta.now masks.now → result.verify ≡ Ok Accepted }
 {
     let proved = prover::prove(key, h, x, y, positions, u, v, r, s, alpha, t, a);
     let judged = verifier::verify(key, h, x, y, t, q, delta, masks, alpha, a);
@@ -103,8 +97,8 @@ pub fn completeness(
 
 #[derive(Clone, Copy)]
 pub struct Stored {
-    pub written: Written,
-    pub read: Read,
+    pub written: Result<usize, Refusal>,
+    pub read: Result<Contents, Refusal>,
     pub field: Part,
 }
 
@@ -121,16 +115,16 @@ pub fn read_back(
     tag: u8,
     out: &mut [u8],
 ) -> Stored
-    ensures { (k : ℕ) → result.written ≡ Length k → (result.read ≡ Fields (record { n = key.n; m = key.m; serial = serial })) × (part result.field.start result.field.len (take k out.new) ≡ content_of tag ((package_form (level_at FIRST)).fields (data_of key (key_slices h.now x.now y.now) serial t.now a.now))) }
+    ensures { (k : ℕ) → result.written ≡ Ok k → (result.read ≡ Ok (record { n = key.n; m = key.m; serial = serial })) × (part result.field.start result.field.len (take k out.new) ≡ content_of tag ((package_form (level_at FIRST)).fields (data_of key (key_slices h.now x.now y.now) serial t.now a.now))) }
 {
     match writer::write_package(key, h, x, y, serial, t, a, out) {
-        Written::Refused(refusal) => Stored {
-            written: Written::Refused(refusal),
-            read: Read::Refused(refusal),
+        Err(refusal) => Stored {
+            written: Err(refusal),
+            read: Err(refusal),
             field: Part { start: 0, len: 0 },
         },
-        Written::Length(len) => Stored {
-            written: Written::Length(len),
+        Ok(len) => Stored {
+            written: Ok(len),
             read: package::read_package(&out[..len]),
             field: package::field_part(&out[..len], tag),
         },
@@ -145,8 +139,8 @@ const TARGET: usize = 63;
 const PROOF: usize = 72;
 
 // The fields of an accepted package, lent to the writer. Where field 04 is absent the room for y stays zero.
-fn rewritten(bytes: &[u8], contents: Contents, out: &mut [u8]) -> Written
-    requires { reading (package_reader (level_at FIRST)) bytes.now ≡ Fields contents }
+fn rewritten(bytes: &[u8], contents: Contents, out: &mut [u8]) -> Result<usize, Refusal>
+    requires { reading (package_reader (level_at FIRST)) bytes.now ≡ Ok contents }
     ensures { (result, out.new) ≡ write_outcome (level_at FIRST) (key_data_of (package_form (level_at FIRST)) bytes.now).sizes (key_data_of (package_form (level_at FIRST)) bytes.now).slices (group_of (package_form (level_at FIRST)) bytes.now).serial (group_of (package_form (level_at FIRST)) bytes.now).t (group_of (package_form (level_at FIRST)) bytes.now).a out.old }
 {
     let mut h = [0u16; MATRIX];
@@ -174,35 +168,33 @@ fn rewritten(bytes: &[u8], contents: Contents, out: &mut [u8]) -> Written
 }
 
 // A package that the reader accepts is written again from its own fields: into an output with room for it go those very bytes.
-pub fn written_again(bytes: &[u8], out: &mut [u8]) -> Written
-    ensures { (c : Contents) → reading (package_reader (level_at FIRST)) bytes.now ≡ Fields c → length bytes.now ≤ length out.old → (result ≡ Length (length bytes.now)) × (out.new ≡ bytes.now ++ drop (length bytes.now) out.old) }
+pub fn written_again(bytes: &[u8], out: &mut [u8]) -> Result<usize, Refusal>
+    ensures { (c : Contents) → reading (package_reader (level_at FIRST)) bytes.now ≡ Ok c → length bytes.now ≤ length out.old → (result ≡ Ok (length bytes.now)) × (out.new ≡ bytes.now ++ drop (length bytes.now) out.old) }
 {
-    match package::read_package(bytes) {
-        Read::Refused(refusal) => Written::Refused(refusal),
-        Read::Fields(contents) => rewritten(bytes, contents, out),
-    }
+    let contents = package::read_package(bytes)?;
+    rewritten(bytes, contents, out)
 }
 
 #[derive(Clone, Copy)]
 pub struct Kept {
-    pub joined: Joined,
-    pub read: bundle::Read,
+    pub joined: Result<Size, Refusal>,
+    pub read: Result<bundle::Contents, Refusal>,
 }
 
 // Two bundles are joined and the result is read: wherever a size is answered, the reader answers for so many bytes the n and m of the first and the
 // same number of groups.
 pub fn joined_back(first: &[u8], second: &[u8], out: &mut [u8]) -> Kept
-    ensures { (size : Size) → result.joined ≡ joined.Size size → result.read ≡ bundle.Fields (record { n = (key_of first.now).n; m = (key_of first.now).m; groups = size.groups }) }
+    ensures { (size : Size) → result.joined ≡ Ok size → result.read ≡ Ok (record { n = (key_of first.now).n; m = (key_of first.now).m; groups = size.groups }) }
 {
     match joining::join_bundles(first, second, out) {
-        Joined::Refused(refusal) => Kept {
-            joined: Joined::Refused(refusal),
-            read: bundle::Read::Refused(refusal),
+        Err(refusal) => Kept {
+            joined: Err(refusal),
+            read: Err(refusal),
         },
-        Joined::Size(size) => {
+        Ok(size) => {
             let len = size.length;
             Kept {
-                joined: Joined::Size(size),
+                joined: Ok(size),
                 read: bundle::read_bundle(&out[..len]),
             }
         }
@@ -211,8 +203,8 @@ pub fn joined_back(first: &[u8], second: &[u8], out: &mut [u8]) -> Kept
 
 // Any bytes joined with themselves: wherever the reader accepts them as a bundle and there is room, the output begins with those very bytes, and their
 // length and number of groups are answered.
-pub fn joined_again(bytes: &[u8], out: &mut [u8]) -> Joined
-    ensures { (c : Groups) → readingBundle (level_at FIRST) bytes.now ≡ bundle.Fields c → length bytes.now ≤ length out.old → (result ≡ joined.Size (record { length = length bytes.now; groups = c.groups })) × (out.new ≡ bytes.now ++ drop (length bytes.now) out.old) }
+pub fn joined_again(bytes: &[u8], out: &mut [u8]) -> Result<Size, Refusal>
+    ensures { (c : Groups) → readingBundle (level_at FIRST) bytes.now ≡ Ok c → length bytes.now ≤ length out.old → (result ≡ Ok (record { length = length bytes.now; groups = c.groups })) × (out.new ≡ bytes.now ++ drop (length bytes.now) out.old) }
 {
     joining::join_bundles(bytes, bytes, out)
 }
@@ -223,7 +215,7 @@ const LARGEST: usize = 0xffff_ffff_ffff_ffff;
 // What a join answers, or how many bytes it needs where there are fewer.
 #[derive(Clone, Copy)]
 pub enum Lent {
-    Joined(Joined),
+    Joined(Result<Size, Refusal>),
     Short(usize),
 }
 
@@ -233,8 +225,8 @@ pub fn joined_exactly(first: &[u8], second: &[u8], out: &mut [u8]) -> Lent
     ensures { LentExactly (level_at FIRST) first.now second.now out.old out.new result }
 {
     match joining::look_before_join(first, second, LARGEST) {
-        Joined::Refused(refusal) => Lent::Joined(Joined::Refused(refusal)),
-        Joined::Size(size) => {
+        Err(refusal) => Lent::Joined(Err(refusal)),
+        Ok(size) => {
             let len = size.length;
             if out.len() < len {
                 return Lent::Short(len);
@@ -271,10 +263,10 @@ pub fn looked_first(
 {
     let n = key.n;
     match order::quick_look(n, positions) {
-        Looked::Well => Driven::Proved(prover::prove(
+        Ok(None) => Driven::Proved(prover::prove(
             key, h, x, y, positions, u, v, r, s, alpha, t, a,
         )),
-        Looked::Offender(index) => Driven::Offender(index),
-        Looked::Refused(refusal) => Driven::Refused(refusal),
+        Ok(Some(index)) => Driven::Offender(index),
+        Err(refusal) => Driven::Refused(refusal),
     }
 }

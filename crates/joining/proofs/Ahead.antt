@@ -1,4 +1,6 @@
 -- What a look before the join tells, of the definitions.
+use Rattle.std.specs.Prelude.{Err}
+use Rattle.refusal.specs.declared.Refusal.TheVariants.{ShortOutput}
 use mathlib.Core.Path.{◌≡◌, refl, sym, ap, ◌∙◌}
 use mathlib.Core.Bool.{Bool, true, false, cond}
 use mathlib.Core.List.{List, [], ◌∷◌, ◌++◌}
@@ -8,9 +10,8 @@ use borrow.Author.Tests.{ltb-true}
 use lib.Dec.{ltb}
 use lib.ListN.{length, drop}
 use Rattle.copying.specs.Words.{Bytes}
-use Rattle.refusal.specs.Answer.{refusal, first_of, room_row}
+use Rattle.refusal.specs.Answer.{first_of, room_row, Answer}
 use Rattle.refusal.specs.declared.Refusal.{Refusal}
-use Rattle.refusal.specs.declared.Answer.{Answer}
 use Rattle.refusal.specs.declared.Answer.TheVariants as answer
 use Rattle.refusal.proofs.Answers.{after-done, after-refused, both_done}
 use Rattle.field.specs.Level.{FIRST, level_at}
@@ -33,26 +34,26 @@ use Rattle.joining.proofs.Numbers.{checks_others, room-left}
 -- which answer a size or a refusal comes from
 size_from : (a : Answer) (n g : ℕ) {z : Size} → size_as a n g ≡ answered.Size z → (a ≡ answer.Done) × (z ≡ record { length = n; groups = g })
 size_from answer.Done n g e = (refl, sym (size_same e))
-size_from (answer.Refused r) n g e = let z : ◌≡◌ {A = ℕ} 0 1 = cc in absurd (omega arith)
+size_from (answer.Err r) n g e = let z : ◌≡◌ {A = ℕ} 0 1 = cc in absurd (omega arith)
 
-refused_from : (a : Answer) (n g : ℕ) {k : Refusal} → size_as a n g ≡ answered.Refused k → a ≡ answer.Refused k
+refused_from : (a : Answer) (n g : ℕ) {k : Refusal} → size_as a n g ≡ answered.Err k → a ≡ answer.Err k
 refused_from answer.Done n g e = let z : ◌≡◌ {A = ℕ} 0 1 = cc in absurd (omega arith)
-refused_from (answer.Refused r) n g e = cc
+refused_from (answer.Err r) n g e = cc
 
-number_from : (a : Answer) (n g : ℕ) → number_of (size_as a n g) ≡ 13 → a ≡ refusal 13
+number_from : (a : Answer) (n g : ℕ) → number_of (size_as a n g) ≡ 13 → a ≡ (Err ShortOutput)
 number_from answer.Done n g e = absurd (omega (arith, e))
-number_from (answer.Refused r) n g e = ap refusal e
+number_from (answer.Err r) n g e = ap Err e
 
 -- the last row alone
-by_room : (b : Bool) (n g : ℕ) → size_as (first_of ((b, 13) ∷ [])) n g ≡ cond b (answered.Refused (record { number = 13 })) (answered.Size (record { length = n; groups = g }))
+by_room : (b : Bool) (n g : ℕ) → size_as (first_of ((b, ShortOutput) ∷ [])) n g ≡ cond b (answered.Err (record { number = 13 })) (answered.Size (record { length = n; groups = g }))
 by_room true n g = refl
 by_room false n g = refl
 
-row_number : (b : Bool) {k : Refusal} → first_of ((b, 13) ∷ []) ≡ answer.Refused k → k.number ≡ 13
+row_number : (b : Bool) {k : Refusal} → first_of ((b, ShortOutput) ∷ []) ≡ answer.Err k → k.number ≡ 13
 row_number true e = cc
 row_number false e = let z : ◌≡◌ {A = ℕ} 0 1 = cc in absurd (omega arith)
 
-row-true : (b : Bool) → first_of ((b, 13) ∷ []) ≡ refusal 13 → b ≡ true
+row-true : (b : Bool) → first_of ((b, ShortOutput) ∷ []) ≡ (Err ShortOutput) → b ≡ true
 row-true true e = refl
 row-true false e = let z : ◌≡◌ {A = ℕ} 0 1 = cc in absurd (omega arith)
 
@@ -64,25 +65,25 @@ module _ (s t : List ℕ) where
   abbrev G : ℕ
   G = length (joined_bundle (level_at FIRST) s t).groups
 
-  abbrev C : List (Bool × ℕ)
+  abbrev C : List (Bool × Refusal)
   C = join_checks (level_at FIRST) s t
 
-  told : (room : ℕ) (size : Size) → join_answer (level_at FIRST) s t room ≡ answered.Size size → (other : ℕ) → join_answer (level_at FIRST) s t other ≡ cond (ltb other size.length) (answered.Refused (record { number = 13 })) (answered.Size size)
+  told : (room : ℕ) (size : Size) → join_answer (level_at FIRST) s t room ≡ answered.Size size → (other : ℕ) → join_answer (level_at FIRST) s t other ≡ cond (ltb other size.length) (answered.Err (record { number = 13 })) (answered.Size size)
   told room size e other =
       let d = size_from (first_of (join_rows (level_at FIRST) s t room)) N G e in
       let done = (both_done C (room_row N room) d.0).0 in
       ap (λ a. size_as a N G) (after-done C (room_row N other) done) ∙ by_room (ltb other N) N G
-      ∙ ap (λ (z : Size). cond (ltb other z.length) (answered.Refused (record { number = 13 })) (answered.Size z)) (sym d.1)
+      ∙ ap (λ (z : Size). cond (ltb other z.length) (answered.Err (record { number = 13 })) (answered.Size z)) (sym d.1)
 
-  refused : (room : ℕ) (k : Refusal) → join_answer (level_at FIRST) s t room ≡ answered.Refused k → (k.number ≡ 13 → ⊥) → (other : ℕ) → join_answer (level_at FIRST) s t other ≡ answered.Refused k
+  refused : (room : ℕ) (k : Refusal) → join_answer (level_at FIRST) s t room ≡ answered.Err k → (k.number ≡ 13 → ⊥) → (other : ℕ) → join_answer (level_at FIRST) s t other ≡ answered.Err k
   refused room k e f other = go (first_of C) refl
     where
-      given : first_of (C ++ room_row N room) ≡ answer.Refused k
+      given : first_of (C ++ room_row N room) ≡ answer.Err k
       given = refused_from (first_of (join_rows (level_at FIRST) s t room)) N G e
 
-      go : (x : Answer) → first_of C ≡ x → join_answer (level_at FIRST) s t other ≡ answered.Refused k
+      go : (x : Answer) → first_of C ≡ x → join_answer (level_at FIRST) s t other ≡ answered.Err k
       go answer.Done d = absurd (f (row_number (ltb room N) (sym (after-done C (room_row N room) d) ∙ given)))
-      go (answer.Refused j) d = ap (λ a. size_as a N G) (sym (after-refused C (room_row N other) refl d) ∙ after-refused C (room_row N room) refl d ∙ given)
+      go (answer.Err j) d = ap (λ a. size_as a N G) (sym (after-refused C (room_row N other) refl d) ∙ after-refused C (room_row N room) refl d ∙ given)
 
 -- joined groups weigh no more than both
 insert-weight : (w : Group → ℕ) (g : Group) (gs : List Group) → weight w (insert g gs) ≤ w g + weight w gs
@@ -116,7 +117,7 @@ unfolding join_outcome
 ahead first second out = refl
 
 -- what a plan says of the answer
-pub answer-refused : (s t : List ℕ) (room : ℕ) {k : Refusal} → planned (level_at FIRST) s t (first_of (join_rows (level_at FIRST) s t room)) ≡ plan.Refused k → answered.Refused k ≡ join_answer (level_at FIRST) s t room
+pub answer-refused : (s t : List ℕ) (room : ℕ) {k : Refusal} → planned (level_at FIRST) s t (first_of (join_rows (level_at FIRST) s t room)) ≡ plan.Err k → answered.Err k ≡ join_answer (level_at FIRST) s t room
 answer-refused s t room e = ap (λ a. size_as a (N s t) (G s t)) (sym (plan_refused s t (first_of (join_rows (level_at FIRST) s t room)) e))
 
 pub answer-fits : (s t : List ℕ) (room : ℕ) {p : Plan} → planned (level_at FIRST) s t (first_of (join_rows (level_at FIRST) s t room)) ≡ plan.Fits p → answered.Size p.size ≡ join_answer (level_at FIRST) s t room
@@ -129,7 +130,7 @@ pub as_joined : (s t : List ℕ) (room : ℕ) {r : Joined} → r ≡ join_answer
 as_joined s t room e = (e, λ out f. e ∙ ap (join_answer (level_at FIRST) s t) (sym f) ∙ ahead s t out)
 
 -- what is left in the output
-pub left-refused : (s t out : List ℕ) {k : Refusal} → join_answer (level_at FIRST) s t (length out) ≡ answered.Refused k → (answered.Refused k, out) ≡ join_outcome (level_at FIRST) s t out
+pub left-refused : (s t out : List ℕ) {k : Refusal} → join_answer (level_at FIRST) s t (length out) ≡ answered.Err k → (answered.Err k, out) ≡ join_outcome (level_at FIRST) s t out
 left-refused s t out e = outcome-refused s t out (refused_from (first_of (join_rows (level_at FIRST) s t (length out))) (N s t) (G s t) e)
 
 pub left-size : (s t out : List ℕ) {size : Size} → join_answer (level_at FIRST) s t (length out) ≡ answered.Size size → let bytes = written (joined_bundle (level_at FIRST) s t) in

@@ -20,7 +20,7 @@ use Rattle.bundle.specs.Bundle.{starts_from, groups_tests}
 use Rattle.bundle.specs.Written.{groups_fields}
 use Rattle.bundle.proofs.Examples.{key, group, short, long}
 use Rattle.joining.specs.declared.Joined.{Joined}
-use Rattle.joining.specs.declared.Joined.TheVariants.{Size, Refused}
+use Rattle.joining.specs.declared.Joined.TheVariants.{Size, Err}
 use Rattle.joining.specs.Union.{insert, union, same, differs_from, differ}
 use Rattle.joining.specs.Entry.{join_answer, join_outcome}
 
@@ -29,7 +29,7 @@ abbrev outcome : (first second : List ℕ) (room : ℕ) → Joined × List ℕ
 outcome first second room = join_outcome (level_at FIRST) (key ++ first) (key ++ second) (replicate room 255)
 
 abbrev refused : ℕ → ℕ → Joined × List ℕ
-refused k room = (Refused (record { number = k }), replicate room 255)
+refused k room = (Err (record { number = k }), replicate room 255)
 
 -- so many groups in these bytes, and so many further bytes of the output
 abbrev size : ℕ → ℕ → List ℕ → ℕ → Joined × List ℕ
@@ -76,11 +76,11 @@ pub looks : List (Joined × Joined)
 looks =
     (look (short 7) (short 9) 93, told 93 2)
     ∷ (look (short 7) (short 9) 0xffffffffffffffff, told 93 2)
-    ∷ (look (short 7) (short 9) 92, Refused (record { number = 13 }))
-    ∷ (look (short 7) (short 9) 0, Refused (record { number = 13 }))
+    ∷ (look (short 7) (short 9) 92, Err (record { number = 13 }))
+    ∷ (look (short 7) (short 9) 0, Err (record { number = 13 }))
     ∷ (look (short 7) (short 7) 0xffffffffffffffff, told 56 1)
-    ∷ (look (short 7) other_a 0xffffffffffffffff, Refused (record { number = 22 }))
-    ∷ (look (short 7) other_a 0, Refused (record { number = 22 }))
+    ∷ (look (short 7) other_a 0xffffffffffffffff, Err (record { number = 22 }))
+    ∷ (look (short 7) other_a 0, Err (record { number = 22 }))
     ∷ []
 
 pub look_examples : map (λ (c : Joined × Joined). c.0) looks ≡ map (λ (c : Joined × Joined). c.1) looks

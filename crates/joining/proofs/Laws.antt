@@ -1,4 +1,5 @@
 -- The laws of groups joined.
+use Rattle.refusal.specs.declared.Refusal.TheVariants.{ShortOutput, GroupsDiffer}
 use mathlib.Core.Path.{◌≡◌, refl, sym, ap, ap₂, ◌∙◌, subst}
 use mathlib.Core.Bool.{Bool, true, false, cond, ◌||◌}
 use mathlib.Core.Logic.{◌⊎◌, inl, inr, ⊎_elim}
@@ -143,5 +144,5 @@ joins_itself s b e out room =
     let is : union gs gs ≡ gs = union-itself 0 gs w.0.rising in
     let bytes : written (joined_bundle l s s) ≡ s = ap (λ (u : List Group). written (record { key = key_data_of l s; groups = u })) is ∙ sym w.1 in
     let fits : length (written (joined_bundle l s s)) ≤ length out = subst (λ r. length r ≤ length out) (sym bytes) room in
-    let done = key_left s s (length out) e e (same_refl (key_bytes l s)) ∙ pass 22 (room_row (length (written (joined_bundle l s s))) (length out)) (differ-itself 0 gs w.0.rising) ∙ pass 13 [] (le-ltb (length out) (length (written (joined_bundle l s s))) fits) in
+    let done = key_left s s (length out) e e (same_refl (key_bytes l s)) ∙ pass GroupsDiffer (room_row (length (written (joined_bundle l s s))) (length out)) (differ-itself 0 gs w.0.rising) ∙ pass ShortOutput [] (le-ltb (length out) (length (written (joined_bundle l s s))) fits) in
     sym (outcome-done s s out done (λ i. record { length = length (sym bytes i); groups = length (sym is i) }) (λ i. sym bytes i ++ drop (length (sym bytes i)) out))

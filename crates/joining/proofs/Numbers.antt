@@ -1,11 +1,13 @@
 -- The numbers of the rows before the room: each is that of a refusal, and none is 13.
+use Rattle.refusal.specs.declared.Refusal.{Refusal}
+use Rattle.std.specs.Prelude.{Err}
+use Rattle.refusal.specs.declared.Refusal.TheVariants.{ShortOutput, DependentRows}
 use mathlib.Core.Path.{◌≡◌, refl, ap}
 use mathlib.Core.Bool.{Bool, true, false}
 use mathlib.Core.List.{List, [], ◌∷◌, ◌++◌}
 use Prim.Native.Nat.{ℕ, ◌+◌, ◌<◌}
 use native.Mathlib.Omega.{arith}
-use Rattle.refusal.specs.Answer.{refusal, first_of, number_of}
-use Rattle.refusal.specs.declared.Answer.TheVariants.{Done}
+use Rattle.refusal.specs.Answer.{first_of, number_of, Done}
 use Rattle.field.specs.declared.Level.{Level}
 use Rattle.key.specs.declared.Key.{Key}
 use Rattle.layout.specs.declared.Row.{Row}
@@ -22,7 +24,7 @@ pub record Other (k : ℕ) : Type 0 where
   pub most : k < 255
   pub not-room : k ≡ 13 → ⊥
 
-abbrev pub Others : List (Bool × ℕ) → Type 0
+abbrev pub Others : List (Bool × Refusal) → Type 0
 Others [] = Unit {0}
 Others ((b, k) ∷ rows) = Other k × Others rows
 
@@ -32,7 +34,7 @@ below k h m = record { some = h; most = omega (arith, m); not-room = λ e. omega
 above : (k : ℕ) → 13 < k → k < 255 → Other k
 above k h m = record { some = omega (arith, h); most = m; not-room = λ e. omega (arith, h, e) }
 
-append_others : (rows others : List (Bool × ℕ)) → Others rows → Others others → Others (rows ++ others)
+append_others : (rows others : List (Bool × Refusal)) → Others rows → Others others → Others (rows ++ others)
 append_others [] others f g = g
 append_others ((b, k) ∷ rows) others f g = (f.0, append_others rows others f.1 g)
 
@@ -64,7 +66,7 @@ groups_others l key s low (at ∷ starts) =
 bundle_others : (l : Level) (s : List ℕ) → Others (bundle_tests l s)
 bundle_others l s =
     append_others (key_tests l s) _
-    (append_others (tests l s 0 (key_segment l s)) ((leans l s, 15) ∷ []) (tests_others l s 0 (key_segment l s)) (above _ (omega arith) (omega arith), tt))
+    (append_others (tests l s 0 (key_segment l s)) ((leans l s, DependentRows) ∷ []) (tests_others l s 0 (key_segment l s)) (above _ (omega arith) (omega arith), tt))
     (groups_others l (key_of s) s 0 (starts l s))
 
 -- all rows of a join but the room's
@@ -75,7 +77,7 @@ checks_others l s t =
     (above _ (omega arith) (omega arith), (above _ (omega arith) (omega arith), tt))
 
 -- where 13 is the answer none of them applies
-pub room-left : (rows others : List (Bool × ℕ)) → Others rows → first_of (rows ++ others) ≡ refusal 13 → first_of rows ≡ Done
+pub room-left : (rows others : List (Bool × Refusal)) → Others rows → first_of (rows ++ others) ≡ (Err ShortOutput) → first_of rows ≡ Done
 room-left [] others f e = refl
 room-left ((false, k) ∷ rows) others f e = room-left rows others f.1 e
 room-left ((true, k) ∷ rows) others f e = absurd (f.0.not-room (ap number_of e))

@@ -1,4 +1,5 @@
 -- What joining answers and writes, from what its functions ensure.
+use Rattle.refusal.specs.declared.Refusal.TheVariants.{ShortOutput, OtherKey, GroupsDiffer}
 use mathlib.Core.Path.{◌≡◌, refl, sym, ap, ap₂, ◌∙◌, subst}
 use mathlib.Core.Bool.{Bool, true, false, not, cond}
 use mathlib.Core.List.{List, [], ◌∷◌, ◌++◌, append_assoc}
@@ -13,9 +14,8 @@ use Rattle.lists.specs.Words.{part, put}
 use Rattle.lists.proofs.Words.{part_at}
 use Rattle.copying.specs.Words.{Bytes}
 use Rattle.copying.proofs.Filled.{stands-next, stands-first, first-stands}
-use Rattle.refusal.specs.Answer.{first_of, room_row, written as kept}
+use Rattle.refusal.specs.Answer.{first_of, room_row, written as kept, Answer}
 use Rattle.refusal.specs.declared.Refusal.{Refusal}
-use Rattle.refusal.specs.declared.Answer.{Answer}
 use Rattle.refusal.specs.declared.Answer.TheVariants as answer
 use Rattle.refusal.proofs.Answers.{none, after-done, after-refused, both_done, pass, stop}
 use Rattle.field.specs.Level.{FIRST, level_at}
@@ -115,48 +115,48 @@ module _ (s t : List ℕ) (b : Bytes s) (c : Bytes t) (one : Accepted (level_at 
 
 -- the answer, by the rows
 module _ (s t : List ℕ) (room : ℕ) where
-  abbrev A : List (Bool × ℕ)
+  abbrev A : List (Bool × Refusal)
   A = bundle_tests (level_at FIRST) s
 
-  abbrev B : List (Bool × ℕ)
+  abbrev B : List (Bool × Refusal)
   B = bundle_tests (level_at FIRST) t
 
-  abbrev C : List (Bool × ℕ)
-  C = (not (same (key_bytes (level_at FIRST) s) (key_bytes (level_at FIRST) t)), 21) ∷ (differ (groups_of (level_at FIRST) s) (groups_of (level_at FIRST) t), 22) ∷ []
+  abbrev C : List (Bool × Refusal)
+  C = (not (same (key_bytes (level_at FIRST) s) (key_bytes (level_at FIRST) t)), OtherKey) ∷ (differ (groups_of (level_at FIRST) s) (groups_of (level_at FIRST) t), GroupsDiffer) ∷ []
 
-  abbrev D : List (Bool × ℕ)
+  abbrev D : List (Bool × Refusal)
   D = room_row (length (written (joined_bundle (level_at FIRST) s t))) room
 
-  pub by_first : {k : Refusal} → first_of A ≡ answer.Refused k → plan.Refused k ≡ planned (level_at FIRST) s t (first_of (join_rows (level_at FIRST) s t room))
+  pub by_first : {k : Refusal} → first_of A ≡ answer.Err k → plan.Err k ≡ planned (level_at FIRST) s t (first_of (join_rows (level_at FIRST) s t room))
   by_first e = ap (planned (level_at FIRST) s t) (sym e ∙ after-refused (A ++ B ++ C) D (after-refused (A ++ B) C (after-refused A B refl e) e) e)
 
   module _ (one : first_of A ≡ answer.Done) where
-    pub by_second : {k : Refusal} → first_of B ≡ answer.Refused k → plan.Refused k ≡ planned (level_at FIRST) s t (first_of (join_rows (level_at FIRST) s t room))
+    pub by_second : {k : Refusal} → first_of B ≡ answer.Err k → plan.Err k ≡ planned (level_at FIRST) s t (first_of (join_rows (level_at FIRST) s t room))
     by_second e = ap (planned (level_at FIRST) s t) (sym e ∙ after-refused (A ++ B ++ C) D (after-refused (A ++ B) C (sym (after-done A B one)) e) e)
 
     module _ (two : first_of B ≡ answer.Done) where
       rows_left : first_of (join_rows (level_at FIRST) s t room) ≡ first_of (C ++ D)
       rows_left = ap first_of (append_assoc (A ++ B) C D) ∙ after-done (A ++ B) (C ++ D) (after-done A B one ∙ two)
 
-      pub by_key : same (key_bytes (level_at FIRST) s) (key_bytes (level_at FIRST) t) ≡ false → plan.Refused (record { number = 21 }) ≡ planned (level_at FIRST) s t (first_of (join_rows (level_at FIRST) s t room))
-      by_key e = ap (planned (level_at FIRST) s t) (sym (rows_left ∙ stop 21 ((differ (groups_of (level_at FIRST) s) (groups_of (level_at FIRST) t), 22) ∷ D) (ap not e)))
+      pub by_key : same (key_bytes (level_at FIRST) s) (key_bytes (level_at FIRST) t) ≡ false → plan.Err (record { number = 21 }) ≡ planned (level_at FIRST) s t (first_of (join_rows (level_at FIRST) s t room))
+      by_key e = ap (planned (level_at FIRST) s t) (sym (rows_left ∙ stop OtherKey ((differ (groups_of (level_at FIRST) s) (groups_of (level_at FIRST) t), GroupsDiffer) ∷ D) (ap not e)))
 
       module _ (key : same (key_bytes (level_at FIRST) s) (key_bytes (level_at FIRST) t) ≡ true) where
-        pub key_left : first_of (join_rows (level_at FIRST) s t room) ≡ first_of ((differ (groups_of (level_at FIRST) s) (groups_of (level_at FIRST) t), 22) ∷ D)
-        key_left = rows_left ∙ pass 21 ((differ (groups_of (level_at FIRST) s) (groups_of (level_at FIRST) t), 22) ∷ D) (ap not key)
+        pub key_left : first_of (join_rows (level_at FIRST) s t room) ≡ first_of ((differ (groups_of (level_at FIRST) s) (groups_of (level_at FIRST) t), GroupsDiffer) ∷ D)
+        key_left = rows_left ∙ pass OtherKey ((differ (groups_of (level_at FIRST) s) (groups_of (level_at FIRST) t), GroupsDiffer) ∷ D) (ap not key)
 
-        pub by_groups : differ (groups_of (level_at FIRST) s) (groups_of (level_at FIRST) t) ≡ true → plan.Refused (record { number = 22 }) ≡ planned (level_at FIRST) s t (first_of (join_rows (level_at FIRST) s t room))
-        by_groups e = ap (planned (level_at FIRST) s t) (sym (key_left ∙ stop 22 D e))
+        pub by_groups : differ (groups_of (level_at FIRST) s) (groups_of (level_at FIRST) t) ≡ true → plan.Err (record { number = 22 }) ≡ planned (level_at FIRST) s t (first_of (join_rows (level_at FIRST) s t room))
+        by_groups e = ap (planned (level_at FIRST) s t) (sym (key_left ∙ stop GroupsDiffer D e))
 
         module _ (agree : differ (groups_of (level_at FIRST) s) (groups_of (level_at FIRST) t) ≡ false) where
-          pub by_room : room < length (written (joined_bundle (level_at FIRST) s t)) → plan.Refused (record { number = 13 }) ≡ planned (level_at FIRST) s t (first_of (join_rows (level_at FIRST) s t room))
-          by_room e = ap (planned (level_at FIRST) s t) (sym (key_left ∙ pass 22 D agree ∙ stop 13 [] (lt-ltb _ _ e)))
+          pub by_room : room < length (written (joined_bundle (level_at FIRST) s t)) → plan.Err (record { number = 13 }) ≡ planned (level_at FIRST) s t (first_of (join_rows (level_at FIRST) s t room))
+          by_room e = ap (planned (level_at FIRST) s t) (sym (key_left ∙ pass GroupsDiffer D agree ∙ stop ShortOutput [] (lt-ltb _ _ e)))
 
           pub by_fit : length (written (joined_bundle (level_at FIRST) s t)) ≤ room → {n g : ℕ} → n ≡ length (written (joined_bundle (level_at FIRST) s t)) → g ≡ length (joined_bundle (level_at FIRST) s t).groups
               → plan.Fits (record { start = key_end (level_at FIRST) s; size = record { length = n; groups = g } }) ≡ planned (level_at FIRST) s t (first_of (join_rows (level_at FIRST) s t room))
           by_fit e f h =
               ap₂ (λ (n g : ℕ). plan.Fits (record { start = key_end (level_at FIRST) s; size = record { length = n; groups = g } })) f h
-              ∙ ap (planned (level_at FIRST) s t) (sym (key_left ∙ pass 22 D agree ∙ pass 13 [] (le-ltb _ _ e)))
+              ∙ ap (planned (level_at FIRST) s t) (sym (key_left ∙ pass GroupsDiffer D agree ∙ pass ShortOutput [] (le-ltb _ _ e)))
 
   -- what holds where no row applies
   pub record Joins : Type 0 where
@@ -178,14 +178,14 @@ module _ (s t : List ℕ) (room : ℕ) where
       }
 
 -- what a plan says of the answer behind it
-pub plan_refused : (s t : List ℕ) (a : Answer) {k : Refusal} → planned (level_at FIRST) s t a ≡ plan.Refused k → a ≡ answer.Refused k
+pub plan_refused : (s t : List ℕ) (a : Answer) {k : Refusal} → planned (level_at FIRST) s t a ≡ plan.Err k → a ≡ answer.Err k
 plan_refused s t answer.Done e = let z : ◌≡◌ {A = ℕ} 0 1 = cc in absurd (omega arith)
-plan_refused s t (answer.Refused r) e = cc
+plan_refused s t (answer.Err r) e = cc
 
 pub plan_fits : (s t : List ℕ) (a : Answer) {p : Plan} → planned (level_at FIRST) s t a ≡ plan.Fits p
     → (a ≡ answer.Done) × (p ≡ record { start = key_end (level_at FIRST) s; size = record { length = length (written (joined_bundle (level_at FIRST) s t)); groups = length (joined_bundle (level_at FIRST) s t).groups } })
 plan_fits s t answer.Done e = (refl, cc)
-plan_fits s t (answer.Refused r) e = let z : ◌≡◌ {A = ℕ} 0 1 = cc in absurd (omega arith)
+plan_fits s t (answer.Err r) e = let z : ◌≡◌ {A = ℕ} 0 1 = cc in absurd (omega arith)
 
 -- groups of either within the limits
 insert-valid : (key : Key) (g : Group) (gs : List Group) → ValidGroup (level_at FIRST) key g → ValidGroups (level_at FIRST) key gs → ValidGroups (level_at FIRST) key (insert g gs)
@@ -265,7 +265,7 @@ pub size_same : {x y : Size} → answered.Size x ≡ answered.Size y → x ≡ y
 size_same e = cc
 
 -- the outcome, by the answer
-pub outcome-refused : (s t out : List ℕ) {k : Refusal} → first_of (join_rows (level_at FIRST) s t (length out)) ≡ answer.Refused k → (answered.Refused k, out) ≡ join_outcome (level_at FIRST) s t out
+pub outcome-refused : (s t out : List ℕ) {k : Refusal} → first_of (join_rows (level_at FIRST) s t (length out)) ≡ answer.Err k → (answered.Err k, out) ≡ join_outcome (level_at FIRST) s t out
 unfolding join_outcome
 outcome-refused s t out e =
     let bundle = joined_bundle (level_at FIRST) s t in

@@ -1,16 +1,15 @@
 -- What the functions that join two bundles rely on and answer: inner data, no part of the entries' promises.
-use Rattle.std.specs.Prelude.{◌≡◌, true, false, List, ℕ, ◌+◌, ◌≤◌, length}
-use Rattle.refusal.specs.declared.Answer.{Answer}
-use Rattle.refusal.specs.declared.Answer.TheVariants as answer
+use Rattle.std.specs.Prelude.{◌≡◌, true, false, List, ℕ, ◌+◌, ◌≤◌, length, Result, Ok, Err}
+use Rattle.refusal.specs.Answer.{Answer}
+use Rattle.refusal.specs.declared.Refusal.{Refusal}
+use Rattle.refusal.specs.declared.Refusal.TheVariants.{GroupsDiffer}
 use Rattle.field.specs.declared.Level.{Level}
 use Rattle.layout.specs.Layout.{key_end}
 use Rattle.layout.specs.Tests.{key_of}
 use Rattle.package.specs.Written.{joined, Group}
 use Rattle.bundle.specs.Written.{Accepted, groups_fields, written}
-use Rattle.joining.specs.declared.Tally.{Tally}
-use Rattle.joining.specs.declared.Tally.TheVariants as tally
-use Rattle.joining.specs.declared.Planned.{Planned}
-use Rattle.joining.specs.declared.Planned.TheVariants as plan
+use Rattle.joining.specs.declared.Shared.{Shared}
+use Rattle.joining.specs.declared.Plan.{Plan}
 use Rattle.joining.specs.Union.{union, differ}
 use Rattle.joining.specs.Entry.{joined_bundle}
 
@@ -34,12 +33,13 @@ pub record Counted (xs ys : List Group) (number size : ℕ) : Type 0 where
   pub bytes : length (groups_bytes (union xs ys)) + size ≡ length (groups_bytes xs) + length (groups_bytes ys)
   pub short : size ≤ length (groups_bytes xs)
 
-abbrev pub Tallied : (xs ys : List Group) → Tally → Type 0
-Tallied xs ys (tally.Shared s) = Counted xs ys s.number s.length
-Tallied xs ys tally.Differ = differ xs ys ≡ true
+-- the shared groups, or 22
+abbrev pub Tallied : (xs ys : List Group) → Result Shared Refusal → Type 0
+Tallied xs ys (Ok s) = Counted xs ys s.number s.length
+Tallied xs ys (Err r) = (differ xs ys ≡ true) × (r ≡ GroupsDiffer)
 
 -- the joined bundle that fits, or the refusal
-abbrev pub planned : (l : Level) (first second : List ℕ) → Answer → Planned
-planned l first second answer.Done =
-    plan.Fits (record { start = key_end l first; size = record { length = length (written (joined_bundle l first second)); groups = length (joined_bundle l first second).groups } })
-planned l first second (answer.Refused r) = plan.Refused r
+abbrev pub planned : (l : Level) (first second : List ℕ) → Answer → Result Plan Refusal
+planned l first second (Ok _) =
+    Ok (record { start = key_end l first; size = record { length = length (written (joined_bundle l first second)); groups = length (joined_bundle l first second).groups } })
+planned l first second (Err r) = Err r

@@ -1,7 +1,7 @@
 // The entries join_bundles and look_before_join: for records rooms that hold two bundles of one key.
 #![tactic(auto)]
 
-ghost use Rattle.std.specs.Prelude.{◌≡◌, List, ℕ, ◌+◌, ◌-◌, ◌≤◌, length};
+ghost use Rattle.std.specs.Prelude.{Ok, ◌≡◌, List, ℕ, ◌+◌, ◌-◌, ◌≤◌, length};
 ghost use Rattle.lists.specs.Words.{part, put};
 ghost use Rattle.refusal.specs.Answer.{first_of};
 ghost use Rattle.field.specs.Level.{FIRST, level_at};
@@ -10,66 +10,34 @@ ghost use Rattle.bundle.specs.Bundle.{starts, bundle_tests, groups_of};
 ghost use Rattle.bundle.specs.Reading.{found};
 ghost use Rattle.bundle.specs.Written.{Accepted};
 ghost use Rattle.joining.specs.declared.Size.{Size};
-ghost use Rattle.joining.specs.declared.Joined.TheVariants as answer;
 ghost use Rattle.joining.specs.Union.{union, same};
-ghost use Rattle.joining.specs.Entry.{number_of, join_rows, join_answer, join_outcome};
+ghost use Rattle.joining.specs.Entry.{join_rows, join_answer, join_outcome};
 ghost use Rattle.joining.specs.Laws.{ReadBack};
 ghost use Rattle.joining.specs.Steps.{Mates, groups_bytes, Tallied, planned};
 
-use bundle::{Found, Groups};
+use bundle::Groups;
 use layout::Row;
 use refusal::Refusal;
 
 // The length of a joined bundle, and the number of its groups.
-#[derive(Clone, Copy)]
+#[derive(Clone, Copy, Debug, PartialEq, Eq)]
 pub struct Size {
     pub length: usize,
     pub groups: usize,
 }
 
-// What join_bundles and look_before_join answer.
-#[derive(Clone, Copy)]
-pub enum Joined {
-    Size(Size),
-    Refused(Refusal),
-}
-
 // The groups that two bundles share: how many, and how many bytes each bundle has of them.
-#[derive(Clone, Copy)]
+#[derive(Clone, Copy, Debug, PartialEq, Eq)]
 pub struct Shared {
     pub number: usize,
     pub length: usize,
 }
 
-// The shared groups, or that two groups with one serial differ.
-#[derive(Clone, Copy)]
-pub enum Tally {
-    Shared(Shared),
-    Differ,
-}
-
 // A joined bundle that fits: where the groups start, in it and in both bundles, and its size.
-#[derive(Clone, Copy)]
+#[derive(Clone, Copy, Debug, PartialEq, Eq)]
 pub struct Plan {
     pub start: usize,
     pub size: Size,
-}
-
-// The joined bundle, or the refusal.
-#[derive(Clone, Copy)]
-pub enum Planned {
-    Fits(Plan),
-    Refused(Refusal),
-}
-
-// The answer's number: 0 for a size, else the refusal's.
-pub fn number(answer: Joined) -> u32
-    ensures { result ≡ number_of answer }
-{
-    match answer {
-        Joined::Size(_) => 0,
-        Joined::Refused(refusal) => refusal.number,
-    }
 }
 
 // Whether the bytes are the same. No byte ends the loop, so that the compiler compares many at once.
@@ -80,16 +48,14 @@ fn same(a: &[u8], b: &[u8]) -> bool
         return false;
     }
     let mut d = 0;
-    let mut i = 0;
-    while i < a.len() {
-        d = d | (a[i] ^ b[i]);
-        i += 1;
+    for (x, y) in a.iter().zip(b) {
+        d |= x ^ y;
     }
     d == 0
 }
 
-// The groups that two bundles of one key share; nothing is written.
-fn count_shared(first: &[u8], second: &[u8], start: usize) -> Tally
+// The groups that two bundles of one key share, or 22; nothing is written.
+fn count_shared(first: &[u8], second: &[u8], start: usize) -> Result<Shared, Refusal>
     requires { Mates (level_at FIRST) first.now second.now start }
     ensures { Tallied (groups_of (level_at FIRST) first.now) (groups_of (level_at FIRST) second.now) result }
 {
@@ -100,10 +66,10 @@ fn count_shared(first: &[u8], second: &[u8], start: usize) -> Tally
     let mut length = 0;
     loop {
         if first.len() <= i {
-            return Tally::Shared(Shared { number, length });
+            return Ok(Shared { number, length });
         }
         if second.len() <= j {
-            return Tally::Shared(Shared { number, length });
+            return Ok(Shared { number, length });
         }
         let a = bundle::serial_at(first, i);
         let b = bundle::serial_at(second, j);
@@ -115,7 +81,7 @@ fn count_shared(first: &[u8], second: &[u8], start: usize) -> Tally
             let p = bundle::group_end(first, key, i);
             let q = bundle::group_end(second, key, j);
             if !same(&first[i..p], &second[j..q]) {
-                return Tally::Differ;
+                return Err(Refusal::GroupsDiffer);
             }
             number += 1;
             length += p - i;
@@ -170,7 +136,7 @@ fn put_groups(first: &[u8], second: &[u8], start: usize, out: &mut [u8])
 }
 
 // 21, 22 and 13 of accepted bundles, whose groups these are, with an output of so many bytes: the joined bundle, or the refusal.
-fn compare(first: &[u8], one: Groups, second: &[u8], two: Groups, room: usize) -> Planned
+fn compare(first: &[u8], one: Groups, second: &[u8], two: Groups, room: usize) -> Result<Plan, Refusal>
     requires accepted { Accepted (level_at FIRST) first.now × Accepted (level_at FIRST) second.now }
     requires one_value { (one ≡ record { start = key_end (level_at FIRST) first.now; number = length (starts (level_at FIRST) first.now) }) × (two ≡ record { start = key_end (level_at FIRST) second.now; number = length (starts (level_at FIRST) second.now) }) }
     ensures { result ≡ planned (level_at FIRST) first.now second.now (first_of (join_rows (level_at FIRST) first.now second.now room)) }
@@ -178,27 +144,21 @@ fn compare(first: &[u8], one: Groups, second: &[u8], two: Groups, room: usize) -
     let start = one.start;
     let other = two.start;
     if !same(&first[..start], &second[..other]) {
-        return Planned::Refused(Refusal::OTHER_KEY);
+        return Err(Refusal::OtherKey);
     }
-    match count_shared(first, second, start) {
-        Tally::Differ => Planned::Refused(Refusal::GROUPS_DIFFER),
-        Tally::Shared(both) => {
-            let length = first.len() - both.length + (second.len() - start);
-            if room < length {
-                return Planned::Refused(Refusal::SHORT_OUTPUT);
-            }
-            let groups = one.number - both.number + two.number;
-            Planned::Fits(Plan {
-                start,
-                size: Size { length, groups },
-            })
-        }
+    let both = count_shared(first, second, start)?;
+    let length = first.len() - both.length + (second.len() - start);
+    if room < length {
+        return Err(Refusal::ShortOutput);
     }
+    let groups = one.number - both.number + two.number;
+    let size = Size { length, groups };
+    Ok(Plan { start, size })
 }
 
 // The second bundle, after the first is accepted, whose groups start at a position: its groups, or the refusal. Where it begins with the key fields
 // of the first, and no field 04 follows, these are not read again, nor are the rows of H tested.
-fn walk_second(first: &[u8], start: usize, second: &[u8]) -> Found
+fn walk_second(first: &[u8], start: usize, second: &[u8]) -> Result<Groups, Refusal>
     requires { Accepted (level_at FIRST) first.now × (start ≡ key_end (level_at FIRST) first.now) }
     ensures { result ≡ found (first_of (bundle_tests (level_at FIRST) second.now)) (key_end (level_at FIRST) second.now) (length (starts (level_at FIRST) second.now)) }
 {
@@ -208,52 +168,38 @@ fn walk_second(first: &[u8], start: usize, second: &[u8]) -> Found
     if !same(&first[..start], &second[..start]) {
         return bundle::walk(second);
     }
-    if copying::byte_at(second, start) == Row::Y as usize {
+    if copying::byte_at(second, start) == usize::from(Row::Y) {
         return bundle::walk(second);
     }
     bundle::read_groups(second, layout::key_at(second, layout::HEAD), start)
 }
 
 // All refusals with an output of so many bytes: the joined bundle, or the first that applies.
-fn look(first: &[u8], second: &[u8], room: usize) -> Planned
+fn look(first: &[u8], second: &[u8], room: usize) -> Result<Plan, Refusal>
     ensures { result ≡ planned (level_at FIRST) first.now second.now (first_of (join_rows (level_at FIRST) first.now second.now room)) }
 {
-    match bundle::walk(first) {
-        Found::Refused(refusal) => Planned::Refused(refusal),
-        Found::Whole(one) => match walk_second(first, one.start, second) {
-            Found::Refused(refusal) => Planned::Refused(refusal),
-            Found::Whole(two) => compare(first, one, second, two, room),
-        },
-    }
+    let one = bundle::walk(first)?;
+    let two = walk_second(first, one.start, second)?;
+    compare(first, one, second, two, room)
 }
 
 // The bundle that has every group of either, once, by rising serial, at the start of out, whose further bytes stay; answers its size.
-pub fn join_bundles(first: &[u8], second: &[u8], out: &mut [u8]) -> Joined
+pub fn join_bundles(first: &[u8], second: &[u8], out: &mut [u8]) -> Result<Size, Refusal>
     ensures outcome { (result, out.new) ≡ join_outcome (level_at FIRST) first.now second.now out.old }
-    ensures reads { (size : Size) → result ≡ answer.Size size → ReadBack (level_at FIRST) first.now second.now size out.new }
+    ensures reads { (size : Size) → result ≡ Ok size → ReadBack (level_at FIRST) first.now second.now size out.new }
 {
-    match look(first, second, out.len()) {
-        Planned::Refused(refusal) => Joined::Refused(refusal),
-        Planned::Fits(plan) => {
-            let start = plan.start;
-            put_part(first, 0, start, 0, out);
-            put_groups(first, second, start, out);
-            let size = plan.size;
-            Joined::Size(size)
-        }
-    }
+    let plan = look(first, second, out.len())?;
+    let start = plan.start;
+    put_part(first, 0, start, 0, out);
+    put_groups(first, second, start, out);
+    Ok(plan.size)
 }
 
 // What join_bundles answers with an output of so many bytes; nothing is written.
-pub fn look_before_join(first: &[u8], second: &[u8], room: usize) -> Joined
+pub fn look_before_join(first: &[u8], second: &[u8], room: usize) -> Result<Size, Refusal>
     ensures outcome { result ≡ join_answer (level_at FIRST) first.now second.now room }
     ensures ahead { (out : List ℕ) → length out ≡ room → result ≡ (join_outcome (level_at FIRST) first.now second.now out).0 }
 {
-    match look(first, second, room) {
-        Planned::Refused(refusal) => Joined::Refused(refusal),
-        Planned::Fits(plan) => {
-            let told = plan.size;
-            Joined::Size(told)
-        }
-    }
+    let told = look(first, second, room)?.size;
+    Ok(told)
 }

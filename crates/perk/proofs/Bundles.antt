@@ -1,12 +1,12 @@
 -- Bundles: n and m are numbers of 32 bits, and no row of a join has the number of an answer that is no refusal.
+use Rattle.refusal.specs.declared.Refusal.{Refusal}
 use mathlib.Core.Path.{◌≡◌, refl, sym, ap, ◌∙◌}
 use mathlib.Core.Bool.{Bool}
 use mathlib.Core.List.{List, [], ◌∷◌, ◌++◌}
 use Prim.Native.Nat.{ℕ}
 use native.Mathlib.Omega.{arith}
 use lib.ListN.{length}
-use Rattle.refusal.specs.Answer.{first_of}
-use Rattle.refusal.specs.declared.Answer.{Answer}
+use Rattle.refusal.specs.Answer.{first_of, Answer}
 use Rattle.field.specs.declared.Level.{Level}
 use Rattle.field.specs.Level.{FIRST, level_at}
 use Rattle.field.proofs.Fields.{first-most}
@@ -15,7 +15,7 @@ use Rattle.layout.proofs.Files.{key-sized}
 use Rattle.refusal.proofs.Answers.{both_done}
 use Rattle.bundle.specs.declared.Contents.{Contents}
 use Rattle.bundle.specs.declared.Read.{Read}
-use Rattle.bundle.specs.declared.Read.TheVariants.{Fields, Refused}
+use Rattle.bundle.specs.declared.Read.TheVariants.{Fields, Err}
 use Rattle.bundle.specs.Reading.{reading}
 use Rattle.bundle.proofs.Steps.{read-accepts}
 use Rattle.bundle.specs.Written.{written}
@@ -29,7 +29,7 @@ use Rattle.perk.specs.Answered.{size_or}
 use Rattle.perk.proofs.Numbers.{Refusals, zero-told}
 
 pub bundle_small : (s : List ℕ) (r : Read) → r ≡ reading (level_at FIRST) s → SmallBundle r
-bundle_small s (Refused k) e = tt
+bundle_small s (Err k) e = tt
 bundle_small s (Fields c) e =
     let l = level_at FIRST in
     let f = read-accepts s (sym e) in
@@ -39,7 +39,7 @@ bundle_small s (Fields c) e =
     (omega (arith, n, z.most, first-most), omega (arith, m, z.most, z.fewer, first-most))
 
 -- rows whose numbers are of refusals, and then others
-others_refusals : (rows others : List (Bool × ℕ)) → Others rows → Refusals others → Refusals (rows ++ others)
+others_refusals : (rows others : List (Bool × Refusal)) → Others rows → Refusals others → Refusals (rows ++ others)
 others_refusals [] others f g = g
 others_refusals ((b, k) ∷ rows) others f g = (f.0.some, f.0.most, others_refusals rows others f.1 g)
 
@@ -51,7 +51,7 @@ pub size-told : (l : Level) (s t out : List ℕ) (w : Joined) (old : ℕ × ℕ)
 unfolding join_outcome
 size-told l s t out w old {n = n} {g} e f z = is ∙ ap joined.Size (sym (ap sized (ap (λ (p : ℕ × (ℕ × ℕ)). p.1) e ∙ ap (λ x. (size_or x old).1) is)))
   where
-    rows : List (Bool × ℕ)
+    rows : List (Bool × Refusal)
     rows = join_rows l s t (length out)
 
     sized : ℕ × ℕ → Size

@@ -24,14 +24,11 @@ ghost use Rattle.joining.specs.Laws.{ReadBack as ReadJoined};
 ghost use Rattle.perk.specs.Files.{SmallSizes, read_put, SmallBundle, bundle_put, span_of};
 ghost use Rattle.writer.specs.Entry.{write_outcome, write_leans};
 ghost use Rattle.writer.specs.Laws.{ReadBack};
-ghost use Rattle.perk.specs.Answered.{rank_or, index_or, length_or, size_or, answered};
+ghost use Rattle.perk.specs.Answered.{found_or, index_or, size_or, answered};
 
-use joining::Joined;
+use joining::Size;
 use key::Key;
-use order::Looked;
-use package::Read;
-use rank::Ranked;
-use writer::Written;
+use refusal::Refusal;
 
 // The sum of two elements of K.
 #[unsafe(no_mangle)]
@@ -139,16 +136,16 @@ pub extern "C" fn perk_verify(
     refusal::verdict_number(verifier::verify(key, h, x, y, t, q, delta, masks, alpha, a))
 }
 
-// The number of an answer; the rank is written where it is no refusal.
-fn put_rank(answer: Ranked, rank: &mut usize) -> u32
-    ensures { (result, rank.new) ≡ rank_or answer rank.old }
+// The number of an answer; what was found is written where it is no refusal.
+fn put(answer: Result<usize, Refusal>, to: &mut usize) -> u32
+    ensures { (result, to.new) ≡ found_or answer to.old }
 {
     match answer {
-        Ranked::Rank(found) => {
-            *rank = found;
+        Ok(found) => {
+            *to = found;
             0
         }
-        Ranked::Refused(refusal) => refusal.number,
+        Err(refusal) => refusal.number(),
     }
 }
 
@@ -161,24 +158,24 @@ pub extern "C" fn perk_rank(
     matrix: &mut [u16],
     rank: &mut usize,
 ) -> u32
-    ensures outcome { (result, (matrix.new, rank.new)) ≡ answered rank_or (rank_outcome (level_at FIRST) (record { n = n; m = m }) h.now matrix.old) rank.old }
+    ensures outcome { (result, (matrix.new, rank.new)) ≡ answered found_or (rank_outcome (level_at FIRST) (record { n = n; m = m }) h.now matrix.old) rank.old }
     ensures tells { result ≡ 0 → Tells (level_at FIRST) (record { n = n; m = m }) h.now rank.new }
 {
     let key = Key { n, m };
-    put_rank(rank::rank(key, h, matrix), rank)
+    put(rank::rank(key, h, matrix), rank)
 }
 
 // The number of an answer; the index is written where it is that of an offender.
-fn put_index(answer: Looked, index: &mut usize) -> u32
+fn put_index(answer: Result<Option<usize>, Refusal>, index: &mut usize) -> u32
     ensures { (result, index.new) ≡ index_or answer index.old }
 {
     match answer {
-        Looked::Well => 0,
-        Looked::Offender(found) => {
+        Ok(None) => 0,
+        Ok(Some(found)) => {
             *index = found;
             255
         }
-        Looked::Refused(refusal) => refusal.number,
+        Err(refusal) => refusal.number(),
     }
 }
 
@@ -192,18 +189,18 @@ pub extern "C" fn perk_quick_look(n: usize, positions: &[u8], index: &mut usize)
 }
 
 // The number of a reader's answer; n, m and the serial are written where it is no refusal.
-fn put_read(answer: Read, n: &mut u32, m: &mut u32, serial: &mut u32) -> u32
+fn put_read(answer: Result<package::Contents, Refusal>, n: &mut u32, m: &mut u32, serial: &mut u32) -> u32
     requires { SmallSizes answer }
     ensures { (result, (n.new, m.new, serial.new)) ≡ read_put answer (n.old, m.old, serial.old) }
 {
     match answer {
-        Read::Fields(contents) => {
+        Ok(contents) => {
             *n = contents.n as u32;
             *m = contents.m as u32;
             *serial = contents.serial;
             0
         }
-        Read::Refused(refusal) => refusal.number,
+        Err(refusal) => refusal.number(), // n, m and the serial stay
     }
 }
 
@@ -229,18 +226,18 @@ pub extern "C" fn perk_read_check_file(
 }
 
 // The number of the answer of the reader of bundles; n, m and the number of groups are written where it is no refusal.
-fn put_bundle(answer: bundle::Read, n: &mut u32, m: &mut u32, groups: &mut usize) -> u32
+fn put_bundle(answer: Result<bundle::Contents, Refusal>, n: &mut u32, m: &mut u32, groups: &mut usize) -> u32
     requires { SmallBundle answer }
     ensures { (result, (n.new, m.new, groups.new)) ≡ bundle_put answer (n.old, m.old, groups.old) }
 {
     match answer {
-        bundle::Read::Fields(contents) => {
+        Ok(contents) => {
             *n = contents.n as u32;
             *m = contents.m as u32;
             *groups = contents.groups;
             0
         }
-        bundle::Read::Refused(refusal) => refusal.number,
+        Err(refusal) => refusal.number(), // n, m and the groups stay
     }
 }
 
@@ -258,16 +255,16 @@ pub extern "C" fn perk_read_bundle(
 }
 
 // The number of an answer; the length and the number of groups are written where it is no refusal.
-fn put_size(answer: Joined, length: &mut usize, groups: &mut usize) -> u32
+fn put_size(answer: Result<Size, Refusal>, length: &mut usize, groups: &mut usize) -> u32
     ensures { (result, (length.new, groups.new)) ≡ size_or answer (length.old, groups.old) }
 {
     match answer {
-        Joined::Size(size) => {
+        Ok(size) => {
             *length = size.length;
             *groups = size.groups;
             0
         }
-        Joined::Refused(refusal) => refusal.number,
+        Err(refusal) => refusal.number(),
     }
 }
 
@@ -305,19 +302,6 @@ pub extern "C" fn perk_look_before_join(
     )
 }
 
-// The number of an answer; the length is written where it is no refusal.
-fn put_length(answer: Written, length: &mut usize) -> u32
-    ensures { (result, length.new) ≡ length_or answer length.old }
-{
-    match answer {
-        Written::Length(len) => {
-            *length = len;
-            0
-        }
-        Written::Refused(refusal) => refusal.number,
-    }
-}
-
 // A package, and its length.
 #[unsafe(no_mangle)]
 pub extern "C" fn perk_write_package(
@@ -332,12 +316,12 @@ pub extern "C" fn perk_write_package(
     out: &mut [u8],
     length: &mut usize,
 ) -> u32
-    ensures outcome { (result, (out.new, length.new)) ≡ answered length_or (write_outcome (level_at FIRST) (record { n = n; m = m }) (key_slices h.now x.now y.now) serial t.now a.now out.old) length.old }
+    ensures outcome { (result, (out.new, length.new)) ≡ answered found_or (write_outcome (level_at FIRST) (record { n = n; m = m }) (key_slices h.now x.now y.now) serial t.now a.now out.old) length.old }
     ensures leans { write_leans (level_at FIRST) (record { n = n; m = m }) (key_slices h.now x.now y.now) t.now a.now (result ≡ 15) }
     ensures reads { result ≡ 0 → ReadBack (level_at FIRST) (record { n = n; m = m }) (key_slices h.now x.now y.now) serial t.now a.now length.new out.new }
 {
     let key = Key { n, m };
-    put_length(
+    put(
         writer::write_package(key, h, x, y, serial, t, a, out),
         length,
     )

@@ -11,7 +11,7 @@ read_check_file-requires : tie.Need-read_check_file-requires
 read_check_file-requires c κs = search rules
 
 enum_known-refusal : tie.Need-enum_known-refusal
-enum_known-refusal c = search rules
+enum_known-Err c = search rules
 
 enum_known-contents : tie.Need-enum_known-contents
 enum_known-contents c = search rules
@@ -25,12 +25,12 @@ enum_told-1 c = search rules
 enum_told-in-Rejected : tie.Need-enum_told-in-Rejected
 enum_told-in-Rejected c = search rules
 
-enum_known-refusal-in-Refused-judge : tie.Need-enum_known-refusal-in-Refused-judge
-enum_known-refusal-in-Refused-judge c = search rules
+enum_known-refusal-in-Err-judge : tie.Need-enum_known-refusal-in-Err-judge
+enum_known-refusal-in-Err-judge c = search rules
 
-returns-in-Refused : tie.Need-returns-in-Refused
-returns-in-Refused c =
-    told c.args.bytes.now (sym c.in-Refused.is ∙ c.read_check_file.ensures) refl
+returns-in-Err : tie.Need-returns-in-Err
+returns-in-Err c =
+    told c.args.bytes.now (sym c.in-Err.is ∙ c.read_check_file.ensures) refl
 
 returns-in-Accepted : tie.Need-returns-in-Accepted
 returns-in-Accepted c =
@@ -44,11 +44,11 @@ returns-in-Rejected c =
     let e = sym c.in-Fields.is ∙ c.read_check_file.ensures in
     told s e (sym c.in-Rejected.is ∙ c.judge.ensures)
 
-returns-in-Refused-judge : tie.Need-returns-in-Refused-judge
-returns-in-Refused-judge c =
+returns-in-Err-judge : tie.Need-returns-in-Err-judge
+returns-in-Err-judge c =
     let s = c.args.bytes.now in
     let e = sym c.in-Fields.is ∙ c.read_check_file.ensures in
-    told s e (sym c.in-Refused-judge.is ∙ c.judge.ensures)
+    told s e (sym c.in-Err-judge.is ∙ c.judge.ensures)
 
 pub check_spec : {M : Type 1} → statement M
 check_spec =
@@ -60,8 +60,8 @@ check_spec =
     judge-requires
     enum_told-1
     enum_told-in-Rejected
-    enum_known-refusal-in-Refused-judge
-    returns-in-Refused
+    enum_known-refusal-in-Err-judge
+    returns-in-Err
     returns-in-Accepted
     returns-in-Rejected
-    returns-in-Refused-judge)
+    returns-in-Err-judge)

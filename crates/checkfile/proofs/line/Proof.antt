@@ -2,7 +2,7 @@ use native.Mathlib.Omega.{arith}
 use mathlib.Core.Path.{sym, ap, ◌∙◌}
 use mathlib.Core.List.{[], ◌∷◌, ◌++◌}
 use Rattle.checkfile.specs.declared.Checked.{Checked}
-use Rattle.checkfile.specs.declared.Checked.TheVariants.{Accepted, Rejected, Refused}
+use Rattle.checkfile.specs.declared.Checked.TheVariants.{Accepted, Rejected, Err}
 use Rattle.checkfile.specs.Line.{accepted_text, rejected_text, refused_text, decimal, said_of, line_of, printed}
 use Rattle.copying.proofs.Filled.{Stands, stands-first}
 use Rattle.checkfile.proofs.Text.{stands_more, line_printed, line_short, printed-fits}
@@ -31,14 +31,14 @@ put_contents-at-requires-in-Rejected c κs = search rules
 put_text-requires-in-Rejected : tie.Need-put_text-requires-in-Rejected
 put_text-requires-in-Rejected c κs = search rules
 
-enum_known-checked-in-Refused-1 : tie.Need-enum_known-checked-in-Refused-1
-enum_known-checked-in-Refused-1 c = search rules
+enum_known-checked-in-Err-1 : tie.Need-enum_known-checked-in-Err-1
+enum_known-checked-in-Err-1 c = search rules
 
 put_text-at-requires : tie.Need-put_text-at-requires
 put_text-at-requires c κs = search rules
 
 overflow_cast-refusal : tie.Need-overflow_cast-refusal
-overflow_cast-refusal c = search rules
+overflow_cast-Err c = search rules
 
 put_number-requires : tie.Need-put_number-requires
 put_number-requires c κs = search rules
@@ -69,18 +69,18 @@ returns-in-Rejected c =
     let w : Stands s 0 (said_of k) _ _ = stands-first e.0 e.1 in
     printed-fits c.args.checked s (line_printed (Rejected k) (stands_more rejected_text 10 w (omega arith) f.0 f.1) (omega arith) ∙ ap (λ (k : Checked). printed k s) (sym c.in-Rejected.is))
 
-shape_of-out-in-Refused : tie.Need-shape_of-out-in-Refused
-shape_of-out-in-Refused c = search rules
+shape_of-out-in-Err : tie.Need-shape_of-out-in-Err
+shape_of-out-in-Err c = search rules
 
-returns-in-Refused : tie.Need-returns-in-Refused
+returns-in-Err : tie.Need-returns-in-Err
 unfolding line_of
-returns-in-Refused c =
+returns-in-Err c =
     let s = c.args.out.now in
     let e = c.put_text-at.ensures in
     let f = c.put_number.ensures in
-    let k = c.in-Refused.refusal in
+    let k = c.in-Err.Err in
     let w : Stands s 0 (refused_text ++ (32 ∷ [])) _ _ = record { is = e.0; end = e.1 } in
-    printed-fits c.args.checked s (line_printed (Refused k) (stands_more (decimal k.number) 10 w (omega arith) f.0 f.1) (omega arith) ∙ ap (λ (k : Checked). printed k s) (sym c.in-Refused.is))
+    printed-fits c.args.checked s (line_printed (Err k) (stands_more (decimal k.number) 10 w (omega arith) f.0 f.1) (omega arith) ∙ ap (λ (k : Checked). printed k s) (sym c.in-Err.is))
 
 pub line_spec : {M : Type 1} → statement M
 line_spec =
@@ -93,7 +93,7 @@ line_spec =
     enum_known-checked-in-Rejected-1
     put_contents-at-requires-in-Rejected
     put_text-requires-in-Rejected
-    enum_known-checked-in-Refused-1
+    enum_known-checked-in-Err-1
     put_text-at-requires
     overflow_cast-refusal
     put_number-requires
@@ -101,5 +101,5 @@ line_spec =
     returns-in-Accepted
     shape_of-out-in-Rejected
     returns-in-Rejected
-    shape_of-out-in-Refused
-    returns-in-Refused)
+    shape_of-out-in-Err
+    returns-in-Err)

@@ -14,7 +14,7 @@ join_bundles-requires : tie.Need-join_bundles-requires
 join_bundles-requires c κs = search rules
 
 enum_known-refusal : tie.Need-enum_known-refusal
-enum_known-refusal c = search rules
+enum_known-Err c = search rules
 
 enum_known-size : tie.Need-enum_known-size
 enum_known-size c = search rules
@@ -28,11 +28,11 @@ slice_bounds-read_bundle-end-in-Size c = sym (length-take-le _ _ (c.join_bundles
 read_bundle-requires : tie.Need-read_bundle-requires
 read_bundle-requires c κs = search rules
 
-shape_of-out-in-Refused : tie.Need-shape_of-out-in-Refused
-shape_of-out-in-Refused c = search rules
+shape_of-out-in-Err : tie.Need-shape_of-out-in-Err
+shape_of-out-in-Err c = search rules
 
-returns-in-Refused : tie.Need-returns-in-Refused
-returns-in-Refused c size e = let z : ◌≡◌ {A = ℕ} 0 1 = cc in absurd (omega arith)
+returns-in-Err : tie.Need-returns-in-Err
+returns-in-Err c size e = let z : ◌≡◌ {A = ℕ} 0 1 = cc in absurd (omega arith)
 
 shape_of-out-in-Size : tie.Need-shape_of-out-in-Size
 shape_of-out-in-Size c = search rules
@@ -53,7 +53,7 @@ joined_back_spec =
     slice_bounds-read_bundle-end
     slice_bounds-read_bundle-end-in-Size
     read_bundle-requires
-    shape_of-out-in-Refused
-    returns-in-Refused
+    shape_of-out-in-Err
+    returns-in-Err
     shape_of-out-in-Size
     returns-in-Size)

@@ -23,7 +23,7 @@ look_before_join-requires : tie.Need-look_before_join-requires
 look_before_join-requires c κs = search rules
 
 enum_known-refusal : tie.Need-enum_known-refusal
-enum_known-refusal c = search rules
+enum_known-Err c = search rules
 
 enum_known-size : tie.Need-enum_known-size
 enum_known-size c = search rules
@@ -42,10 +42,10 @@ slice_bounds-join_bundles-end-in-Size c = sym (length-take-le _ _ c.if-out-len.f
 join_bundles-requires : tie.Need-join_bundles-requires
 join_bundles-requires c κs = search rules
 
-returns-in-Refused : tie.Need-returns-in-Refused
-returns-in-Refused c =
+returns-in-Err : tie.Need-returns-in-Err
+returns-in-Err c =
     let a = c.args in
-    look-refused a.first.now a.second.now a.out.now LARGEST (bytes_one c.before) (bytes-two c.before) (omega arith) (sym c.in-Refused.is ∙ c.look_before_join.ensures.0)
+    look-refused a.first.now a.second.now a.out.now LARGEST (bytes_one c.before) (bytes-two c.before) (omega arith) (sym c.in-Err.is ∙ c.look_before_join.ensures.0)
 
 shape_of-out : tie.Need-shape_of-out
 shape_of-out c = search rules
@@ -66,6 +66,6 @@ joined_exactly_spec =
     slice_bounds-join_bundles-end
     slice_bounds-join_bundles-end-in-Size
     join_bundles-requires
-    returns-in-Refused
+    returns-in-Err
     shape_of-out
     returns-else-out-len)

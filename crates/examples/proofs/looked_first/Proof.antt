@@ -21,7 +21,7 @@ enum_known-index : tie.Need-enum_known-index
 enum_known-index c = search rules
 
 enum_known-refusal : tie.Need-enum_known-refusal
-enum_known-refusal c = search rules
+enum_known-Err c = search rules
 
 shape_of-t : tie.Need-shape_of-t
 shape_of-t c = search rules
@@ -43,10 +43,10 @@ returns-in-Offender c =
     let is = c.in-Offender.is in
     (((e.first c.in-Offender.index).0 is).1, refl, λ z. false≢true (ap is_well (sym is ∙ done_well FIRST b.key (key_slices b.h.now b.x.now b.y.now) b.positions.now b.u.now b.v.now b.r.now b.s.now b.alpha.now b.t.now b.a.now e z)))
 
-returns-in-Refused : tie.Need-returns-in-Refused
-returns-in-Refused c =
+returns-in-Err : tie.Need-returns-in-Err
+returns-in-Err c =
     let b = c.args in
-    (refl, λ z. false≢true (ap is_well (sym c.in-Refused.is ∙ done_well FIRST b.key (key_slices b.h.now b.x.now b.y.now) b.positions.now b.u.now b.v.now b.r.now b.s.now b.alpha.now b.t.now b.a.now c.quick_look.ensures.1 z)))
+    (refl, λ z. false≢true (ap is_well (sym c.in-Err.is ∙ done_well FIRST b.key (key_slices b.h.now b.x.now b.y.now) b.positions.now b.u.now b.v.now b.r.now b.s.now b.alpha.now b.t.now b.a.now c.quick_look.ensures.1 z)))
 
 pub looked_first_spec : {M : Type 1} → statement M
 looked_first_spec =
@@ -61,4 +61,4 @@ looked_first_spec =
     shape_of-a
     returns-in-Well
     returns-in-Offender
-    returns-in-Refused)
+    returns-in-Err)

@@ -12,7 +12,7 @@ write_package-requires : tie.Need-write_package-requires
 write_package-requires c κs = search rules
 
 enum_known-refusal : tie.Need-enum_known-refusal
-enum_known-refusal c = search rules
+enum_known-Err c = search rules
 
 enum_known-len : tie.Need-enum_known-len
 enum_known-len c = search rules
@@ -35,11 +35,11 @@ slice_bounds-field_part-end-in-Length c = sym (length-take-le _ _ (c.write_packa
 field_part-requires : tie.Need-field_part-requires
 field_part-requires c κs = search rules
 
-shape_of-out-in-Refused : tie.Need-shape_of-out-in-Refused
-shape_of-out-in-Refused c = search rules
+shape_of-out-in-Err : tie.Need-shape_of-out-in-Err
+shape_of-out-in-Err c = search rules
 
-returns-in-Refused : tie.Need-returns-in-Refused
-returns-in-Refused c k e = let z : ◌≡◌ {A = ℕ} 0 1 = cc in absurd (omega arith)
+returns-in-Err : tie.Need-returns-in-Err
+returns-in-Err c k e = let z : ◌≡◌ {A = ℕ} 0 1 = cc in absurd (omega arith)
 
 shape_of-out-in-Length : tie.Need-shape_of-out-in-Length
 shape_of-out-in-Length c = search rules
@@ -62,7 +62,7 @@ read_back_spec =
     slice_bounds-field_part-end
     slice_bounds-field_part-end-in-Length
     field_part-requires
-    shape_of-out-in-Refused
-    returns-in-Refused
+    shape_of-out-in-Err
+    returns-in-Err
     shape_of-out-in-Length
     returns-in-Length)

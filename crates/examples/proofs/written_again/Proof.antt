@@ -14,7 +14,7 @@ read_package-requires : tie.Need-read_package-requires
 read_package-requires c κs = search rules
 
 enum_known-refusal : tie.Need-enum_known-refusal
-enum_known-refusal c = search rules
+enum_known-Err c = search rules
 
 enum_known-contents : tie.Need-enum_known-contents
 enum_known-contents c = search rules
@@ -22,9 +22,9 @@ enum_known-contents c = search rules
 rewritten-requires : tie.Need-rewritten-requires
 rewritten-requires c κs = sym c.read_package.ensures ∙ c.in-Fields.is
 
-returns-in-Refused : tie.Need-returns-in-Refused
-returns-in-Refused c read e h =
-    let bad = sym c.in-Refused.is ∙ c.read_package.ensures ∙ e in
+returns-in-Err : tie.Need-returns-in-Err
+returns-in-Err c read e h =
+    let bad = sym c.in-Err.is ∙ c.read_package.ensures ∙ e in
     let z : ◌≡◌ {A = ℕ} 0 1 = cc in
     absurd (omega arith)
 
@@ -46,6 +46,6 @@ written_again_spec =
     enum_known-refusal
     enum_known-contents
     rewritten-requires
-    returns-in-Refused
+    returns-in-Err
     shape_of-out
     returns-in-Fields)

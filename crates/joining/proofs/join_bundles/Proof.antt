@@ -64,7 +64,7 @@ look-requires : tie.Need-look-requires
 look-requires c κs = search rules
 
 enum_known-refusal : tie.Need-enum_known-refusal
-enum_known-refusal c = search rules
+enum_known-Err c = search rules
 
 enum_known-plan : tie.Need-enum_known-plan
 enum_known-plan c = search rules
@@ -87,10 +87,10 @@ put_groups-requires c κs =
     let e = c.in-Fits.is in
     (matched c.before.before.before.before.before.before e, omega (arith, room c.before.before.before.before.before.before e, long c.before.before.before))
 
-returns-in-Refused : tie.Need-returns-in-Refused
-returns-in-Refused c =
+returns-in-Err : tie.Need-returns-in-Err
+returns-in-Err c =
     let a = c.args in
-    let e = plan_refused a.first.now a.second.now (first_of (join_rows (level_at FIRST) a.first.now a.second.now (length a.out.now))) (sym c.look.ensures ∙ c.in-Refused.is) in
+    let e = plan_refused a.first.now a.second.now (first_of (join_rows (level_at FIRST) a.first.now a.second.now (length a.out.now))) (sym c.look.ensures ∙ c.in-Err.is) in
     (outcome-refused a.first.now a.second.now a.out.now e, λ size f. let z : ◌≡◌ {A = ℕ} 0 1 = cc in absurd (omega arith))
 
 -- what the output holds at the end
@@ -126,6 +126,6 @@ join_bundles_spec =
     enum_known-plan
     put_part-requires
     put_groups-requires
-    returns-in-Refused
+    returns-in-Err
     shape_of-out
     returns-in-Fits)

@@ -30,7 +30,7 @@ walk-requires : tie.Need-walk-requires
 walk-requires c κs = search rules
 
 enum_known-refusal : tie.Need-enum_known-refusal
-enum_known-refusal c = search rules
+enum_known-Err c = search rules
 
 enum_known-one : tie.Need-enum_known-one
 enum_known-one c = search rules
@@ -38,8 +38,8 @@ enum_known-one c = search rules
 walk_second-requires : tie.Need-walk_second-requires
 walk_second-requires c κs = let w = first-whole c.before c.in-Whole.is in (w.0, ap (λ (g : Groups). g.start) w.1)
 
-enum_known-refusal-in-Refused-walk_second : tie.Need-enum_known-refusal-in-Refused-walk_second
-enum_known-refusal-in-Refused-walk_second c = search rules
+enum_known-refusal-in-Err-walk_second : tie.Need-enum_known-refusal-in-Err-walk_second
+enum_known-refusal-in-Err-walk_second c = search rules
 
 enum_known-two : tie.Need-enum_known-two
 enum_known-two c = search rules
@@ -50,19 +50,19 @@ compare-requires c κs =
     let two = second-whole c.before c.in-Whole-walk_second.is in
     ((one.0, two.0), (one.1, two.1))
 
-returns-in-Refused : tie.Need-returns-in-Refused
-returns-in-Refused c =
+returns-in-Err : tie.Need-returns-in-Err
+returns-in-Err c =
     let a = c.args in
     let l = level_at FIRST in
     let s = a.first.now in
-    by_first s a.second.now a.room (found-refused (first_of (bundle_tests l s)) (key_end l s) (length (starts l s)) (sym c.walk.ensures ∙ c.in-Refused.is))
+    by_first s a.second.now a.room (found-refused (first_of (bundle_tests l s)) (key_end l s) (length (starts l s)) (sym c.walk.ensures ∙ c.in-Err.is))
 
-returns-in-Refused-walk_second : tie.Need-returns-in-Refused-walk_second
-returns-in-Refused-walk_second c =
+returns-in-Err-walk_second : tie.Need-returns-in-Err-walk_second
+returns-in-Err-walk_second c =
     let a = c.args in
     let l = level_at FIRST in
     let t = a.second.now in
-    by_second a.first.now t a.room (first-whole c.before.before.before c.in-Whole.is).0 (found-refused (first_of (bundle_tests l t)) (key_end l t) (length (starts l t)) (sym c.walk_second.ensures ∙ c.in-Refused-walk_second.is))
+    by_second a.first.now t a.room (first-whole c.before.before.before c.in-Whole.is).0 (found-refused (first_of (bundle_tests l t)) (key_end l t) (length (starts l t)) (sym c.walk_second.ensures ∙ c.in-Err-walk_second.is))
 
 returns-in-Whole-walk_second : tie.Need-returns-in-Whole-walk_second
 returns-in-Whole-walk_second c = c.compare.ensures
@@ -75,9 +75,9 @@ look_spec =
     enum_known-refusal
     enum_known-one
     walk_second-requires
-    enum_known-refusal-in-Refused-walk_second
+    enum_known-refusal-in-Err-walk_second
     enum_known-two
     compare-requires
-    returns-in-Refused
-    returns-in-Refused-walk_second
+    returns-in-Err
+    returns-in-Err-walk_second
     returns-in-Whole-walk_second)

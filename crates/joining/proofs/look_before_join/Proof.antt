@@ -8,15 +8,15 @@ look-requires : tie.Need-look-requires
 look-requires c κs = search rules
 
 enum_known-refusal : tie.Need-enum_known-refusal
-enum_known-refusal c = search rules
+enum_known-Err c = search rules
 
 enum_known-plan : tie.Need-enum_known-plan
 enum_known-plan c = search rules
 
-returns-in-Refused : tie.Need-returns-in-Refused
-returns-in-Refused c =
+returns-in-Err : tie.Need-returns-in-Err
+returns-in-Err c =
     let a = c.args in
-    as_joined a.first.now a.second.now a.room (answer-refused a.first.now a.second.now a.room (sym c.look.ensures ∙ c.in-Refused.is))
+    as_joined a.first.now a.second.now a.room (answer-refused a.first.now a.second.now a.room (sym c.look.ensures ∙ c.in-Err.is))
 
 returns-in-Fits : tie.Need-returns-in-Fits
 returns-in-Fits c =
@@ -30,5 +30,5 @@ look_before_join_spec =
     look-requires
     enum_known-refusal
     enum_known-plan
-    returns-in-Refused
+    returns-in-Err
     returns-in-Fits)

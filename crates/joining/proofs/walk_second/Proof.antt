@@ -6,8 +6,7 @@ use borrow.Author.Rules.{rules}
 use lib.ListN.{length, get_or, take}
 use lib.Seq.{length-take-le}
 use Rattle.copying.specs.Words.{Bytes}
-use Rattle.refusal.specs.Answer.{first_of}
-use Rattle.refusal.specs.declared.Answer.TheVariants.{Done}
+use Rattle.refusal.specs.Answer.{first_of, Done}
 use Rattle.refusal.proofs.Answers.{after-done}
 use Rattle.field.specs.Level.{FIRST, level_at}
 use Rattle.key.specs.declared.Key.{Key}

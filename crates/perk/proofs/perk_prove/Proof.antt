@@ -1,12 +1,12 @@
+use Rattle.std.specs.Prelude.{Err}
+use Rattle.refusal.specs.declared.Refusal.TheVariants.{Top, SpareCode}
 use mathlib.Core.Path.{◌≡◌, ap}
 use mathlib.Core.Logic.Iff
 use mathlib.Core.Logic.{◌↔◌}
 use mathlib.Core.List.{List, ◌++◌}
 use Prim.Native.Nat.{ℕ}
 use native.Mathlib.Omega.{arith}
-use Rattle.refusal.specs.Answer.{number_of, refusal}
-use Rattle.refusal.specs.declared.Answer.{Answer}
-use Rattle.refusal.specs.declared.Answer.TheVariants.{Done}
+use Rattle.refusal.specs.Answer.{number_of, Answer, Done}
 use Rattle.refusal.proofs.Answers.{when_numbered}
 use Rattle.field.specs.declared.Level.{Level}
 use Rattle.key.specs.declared.Key.{Key}
@@ -36,9 +36,9 @@ done l key lent positions u v r s α t a e n =
     told-done n (prove_rows l key lent positions u v r s α t a ++ tops_row l key lent positions v) (omega arith, omega arith, (omega arith, omega arith, (omega arith, omega arith, (omega arith, omega arith, (omega arith, omega arith, (omega arith, omega arith, (omega arith, omega arith, (omega arith, omega arith, (omega arith, omega arith, (omega arith, omega arith, (omega arith, omega arith, (omega arith, omega arith, tt)))))))))))) (ap (λ (o : Answer × (List ℕ × List ℕ)). o.0) e)
 
 solved : (l : Level) (key : Key) (lent : KeySlices) (positions u v r s α t a : List ℕ) {o : Answer} {left : List ℕ × List ℕ} {k : ℕ} → (o, left) ≡ prove_outcome l key lent positions u v r s α t a → k ≡ number_of o
-    → Solved l key lent positions u v r s α t a (o ≡ Done) (o ≡ refusal 8) (o ≡ refusal 16) → Solved l key lent positions u v r s α t a (k ≡ 0) (k ≡ 8) (k ≡ 16)
+    → Solved l key lent positions u v r s α t a (o ≡ Done) (o ≡ (Err Top)) (o ≡ (Err SpareCode)) → Solved l key lent positions u v r s α t a (k ≡ 0) (k ≡ 8) (k ≡ 16)
 solved l key lent positions u v r s α t a e n known =
-    record { done = Iff.trans (done l key lent positions u v r s α t a e n) known.done; eight = Iff.trans (told-refusal n 8 (omega arith)) known.eight; sixteen = Iff.trans (told-refusal n 16 (omega arith)) known.sixteen }
+    record { done = Iff.trans (done l key lent positions u v r s α t a e n) known.done; eight = Iff.trans (told-Err n 8 (omega arith)) known.eight; sixteen = Iff.trans (told-Err n 16 (omega arith)) known.sixteen }
 
 returns : tie.Need-returns
 returns c =

@@ -4,12 +4,11 @@ use mathlib.Core.List.{List}
 use Prim.Native.Nat.{ℕ, ◌<◌}
 use native.Mathlib.Omega.{arith}
 use lib.Dec.{ltb}
-use Rattle.refusal.specs.Answer.{first_of}
-use Rattle.refusal.specs.declared.Answer.{Answer}
+use Rattle.refusal.specs.Answer.{first_of, Answer}
 use Rattle.refusal.specs.declared.Answer.TheVariants as answer
 use Rattle.field.specs.Level.{FIRST, level_at}
 use Rattle.order.specs.declared.Looked.{Looked}
-use Rattle.order.specs.declared.Looked.TheVariants.{Well, Offender, Refused}
+use Rattle.order.specs.declared.Looked.TheVariants.{Well, Offender, Err}
 use Rattle.order.specs.Entry.{first_offender, looked_at, looked_as, look_rows, look_outcome}
 use Rattle.order.specs.Tells.{Tells}
 use Rattle.order.proofs.Told.{tells}
@@ -23,7 +22,7 @@ use Rattle.perk.proofs.perk_quick_look.Tie as tie
 abbrev Between : Looked → Type 0
 Between Well = Unit {0}
 Between (Offender i) = Unit {0}
-Between (Refused q) = (0 < q.number) × (q.number < 255)
+Between (Err q) = (0 < q.number) × (q.number < 255)
 
 between : (n : ℕ) (positions : List ℕ) → Between (look_outcome (level_at FIRST) n positions)
 unfolding look_outcome
@@ -35,18 +34,18 @@ between n positions = go (first_of (look_rows (level_at FIRST) n positions)) ref
 
     go : (a : Answer) → first_of (look_rows (level_at FIRST) n positions) ≡ a → Between (looked_as a (looked_at n (first_offender n positions)))
     go answer.Done e = looked (ltb (first_offender n positions) n)
-    go (answer.Refused q) e = refused_between (look_rows (level_at FIRST) n positions) (omega arith, omega arith, (omega arith, omega arith, (omega arith, omega arith, tt))) e
+    go (answer.Err q) e = refused_between (look_rows (level_at FIRST) n positions) (omega arith, omega arith, (omega arith, omega arith, (omega arith, omega arith, tt))) e
 
 -- the number 0 tells that all is well, and 255 an offender at the index that is put
 number-well : (o : Looked) → Between o → (old : ℕ) → (index_or o old).0 ≡ 0 → o ≡ Well
 number-well Well h old e = refl
 number-well (Offender i) h old e = absurd (omega (arith, e))
-number-well (Refused q) h old e = absurd (omega (arith, h.0, e))
+number-well (Err q) h old e = absurd (omega (arith, h.0, e))
 
 number-offender : (o : Looked) → Between o → (old : ℕ) → (index_or o old).0 ≡ 255 → o ≡ Offender (index_or o old).1
 number-offender Well h old e = absurd (omega (arith, e))
 number-offender (Offender i) h old e = refl
-number-offender (Refused q) h old e = absurd (omega (arith, h.1, e))
+number-offender (Err q) h old e = absurd (omega (arith, h.1, e))
 
 told : (n : ℕ) (positions : List ℕ) (old : ℕ) {r k : ℕ} → (r, k) ≡ index_or (look_outcome (level_at FIRST) n positions) old → Tells (level_at FIRST) n positions (r ≡ 0) (λ i. (r ≡ 255) × (k ≡ i))
 told n positions old e =

@@ -1,11 +1,10 @@
+use Rattle.refusal.specs.declared.Refusal.{Refusal}
 use mathlib.Core.Path.{◌≡◌, refl, sym, ap, ◌∙◌}
 use mathlib.Core.Bool.{Bool}
 use mathlib.Core.List.{List}
 use Prim.Native.Nat.{ℕ}
 use native.Mathlib.Omega.{arith}
-use Rattle.refusal.specs.Answer.{first_of}
-use Rattle.refusal.specs.declared.Answer.{Answer}
-use Rattle.refusal.specs.declared.Answer.TheVariants.{Done}
+use Rattle.refusal.specs.Answer.{first_of, Answer, Done}
 use Rattle.field.specs.declared.Level.{Level}
 use Rattle.key.specs.declared.Key.{Key}
 use Rattle.elimination.specs.Rank.{rank_of}
@@ -32,7 +31,7 @@ told : (l : Level) (key : Key) (h matrix : List ℕ) (a : Ranked) (old : ℕ) {s
 unfolding rank_outcome
 told l key h matrix a old {k = k} e f z = is ∙ ap Rank (sym (ap (λ (p : ℕ × ℕ). p.1) e ∙ ap (λ x. (rank_or x old).1) is))
   where
-    rows : List (Bool × ℕ)
+    rows : List (Bool × Refusal)
     rows = rank_rows l key h matrix
 
     ranked : Answer → Ranked

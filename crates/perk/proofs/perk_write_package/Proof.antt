@@ -1,3 +1,4 @@
+use Rattle.refusal.specs.declared.Refusal.{Refusal}
 use mathlib.Core.Logic.Iff
 use mathlib.Core.Path.{◌≡◌, refl, sym, ap, ◌∙◌}
 use mathlib.Core.Bool.{Bool}
@@ -5,14 +6,12 @@ use mathlib.Core.List.{List}
 use Prim.Native.Nat.{ℕ}
 use native.Mathlib.Omega.{arith}
 use lib.ListN.{length}
-use Rattle.refusal.specs.Answer.{first_of}
-use Rattle.refusal.specs.declared.Answer.{Answer}
-use Rattle.refusal.specs.declared.Answer.TheVariants.{Done}
+use Rattle.refusal.specs.Answer.{first_of, Answer, Done}
 use Rattle.field.specs.declared.Level.{Level}
 use Rattle.key.specs.declared.Key.{Key}
 use Rattle.key.specs.Key.{KeySlices, Leans}
 use Rattle.writer.specs.declared.Written.{Written}
-use Rattle.writer.specs.declared.Written.TheVariants.{Length, Refused}
+use Rattle.writer.specs.declared.Written.TheVariants.{Length, Err}
 use Rattle.writer.specs.Entry.{length_as, package_bytes, write_rows, write_outcome}
 use Rattle.perk.specs.Answered.{length_or}
 use Rattle.perk.proofs.Numbers.{zero-told, put}
@@ -34,7 +33,7 @@ told : (l : Level) (key : Key) (lent : KeySlices) (serial : ℕ) (t a out : List
 unfolding write_outcome
 told l key lent serial t a out w old {k = k} e f z = is ∙ ap Length (sym (ap (λ (p : ℕ × ℕ). p.1) e ∙ ap (λ x. (length_or x old).1) is))
   where
-    rows : List (Bool × ℕ)
+    rows : List (Bool × Refusal)
     rows = write_rows l key lent serial t a (length out)
 
     answered : Answer → Written
@@ -52,18 +51,18 @@ told l key lent serial t a out w old {k = k} e f z = is ∙ ap Length (sym (ap (
     is = given ∙ ap answered done
 
 -- a refusal of the answer, by its number
-told-leans : {l : Level} {key : Key} {slices : Bool} {lent : KeySlices} (w : Written) (old : ℕ) {r k : ℕ} → (r, k) ≡ length_or w old → Leans l key slices lent (w ≡ Refused (record { number = 15 })) → Leans l key slices lent (r ≡ 15)
+told-leans : {l : Level} {key : Key} {slices : Bool} {lent : KeySlices} (w : Written) (old : ℕ) {r k : ℕ} → (r, k) ≡ length_or w old → Leans l key slices lent (w ≡ Err (record { number = 15 })) → Leans l key slices lent (r ≡ 15)
 told-leans w old {r = r} e known = record { fifteen = Iff.trans (λ z. only w (sym number ∙ z), λ d. number ∙ ap (λ (x : Written). (length_or x old).0) d) known.fifteen }
   where
     number : r ≡ (length_or w old).0
     number = ap (λ (p : ℕ × ℕ). p.0) e
 
     refused : ℕ → Written
-    refused k = Refused (record { number = k })
+    refused k = Err (record { number = k })
 
-    only : (w : Written) → (length_or w old).0 ≡ 15 → w ≡ Refused (record { number = 15 })
+    only : (w : Written) → (length_or w old).0 ≡ 15 → w ≡ Err (record { number = 15 })
     only (Length n) z = absurd (omega (arith, z))
-    only (Refused q) z = ap refused z
+    only (Err q) z = ap refused z
 
 returns : tie.Need-returns
 returns c =

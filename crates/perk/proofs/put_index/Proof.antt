@@ -11,8 +11,8 @@ enum_told-1 c = search rules
 enum_known-answer : tie.Need-enum_known-answer
 enum_known-answer c = search rules
 
-enum_known-answer-in-Refused-1 : tie.Need-enum_known-answer-in-Refused-1
-enum_known-answer-in-Refused-1 c = search rules
+enum_known-answer-in-Err-1 : tie.Need-enum_known-answer-in-Err-1
+enum_known-answer-in-Err-1 c = search rules
 
 returns-in-Well : tie.Need-returns-in-Well
 returns-in-Well c = let a = c.args in ap (λ (r : Looked). index_or r a.index.now) (sym c.in-Well.is)
@@ -20,8 +20,8 @@ returns-in-Well c = let a = c.args in ap (λ (r : Looked). index_or r a.index.no
 returns-in-Offender : tie.Need-returns-in-Offender
 returns-in-Offender c = let a = c.args in ap (λ (r : Looked). index_or r a.index.now) (sym c.in-Offender.is)
 
-returns-in-Refused : tie.Need-returns-in-Refused
-returns-in-Refused c = let a = c.args in ap (λ (r : Looked). index_or r a.index.now) (sym c.in-Refused.is)
+returns-in-Err : tie.Need-returns-in-Err
+returns-in-Err c = let a = c.args in ap (λ (r : Looked). index_or r a.index.now) (sym c.in-Err.is)
 
 pub put_index_spec : {M : Type 1} → statement M
 put_index_spec =
@@ -29,7 +29,7 @@ put_index_spec =
     (tie.spec
     enum_told-1
     enum_known-answer
-    enum_known-answer-in-Refused-1
+    enum_known-answer-in-Err-1
     returns-in-Well
     returns-in-Offender
-    returns-in-Refused)
+    returns-in-Err)

@@ -8,20 +8,20 @@ use Rattle.perk.proofs.put_length.Tie as tie
 enum_known-answer : tie.Need-enum_known-answer
 enum_known-answer c = search rules
 
-enum_known-answer-in-Refused-1 : tie.Need-enum_known-answer-in-Refused-1
-enum_known-answer-in-Refused-1 c = search rules
+enum_known-answer-in-Err-1 : tie.Need-enum_known-answer-in-Err-1
+enum_known-answer-in-Err-1 c = search rules
 
 returns-in-Length : tie.Need-returns-in-Length
 returns-in-Length c = let a = c.args in ap (λ (w : Written). length_or w a.length.now) (sym c.in-Length.is)
 
-returns-in-Refused : tie.Need-returns-in-Refused
-returns-in-Refused c = let a = c.args in ap (λ (w : Written). length_or w a.length.now) (sym c.in-Refused.is)
+returns-in-Err : tie.Need-returns-in-Err
+returns-in-Err c = let a = c.args in ap (λ (w : Written). length_or w a.length.now) (sym c.in-Err.is)
 
 pub put_length_spec : {M : Type 1} → statement M
 put_length_spec =
     tie.close
     (tie.spec
     enum_known-answer
-    enum_known-answer-in-Refused-1
+    enum_known-answer-in-Err-1
     returns-in-Length
-    returns-in-Refused)
+    returns-in-Err)

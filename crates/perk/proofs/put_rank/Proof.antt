@@ -8,20 +8,20 @@ use Rattle.perk.proofs.put_rank.Tie as tie
 enum_known-answer : tie.Need-enum_known-answer
 enum_known-answer c = search rules
 
-enum_known-answer-in-Refused-1 : tie.Need-enum_known-answer-in-Refused-1
-enum_known-answer-in-Refused-1 c = search rules
+enum_known-answer-in-Err-1 : tie.Need-enum_known-answer-in-Err-1
+enum_known-answer-in-Err-1 c = search rules
 
 returns-in-Rank : tie.Need-returns-in-Rank
 returns-in-Rank c = let a = c.args in ap (λ (r : Ranked). rank_or r a.rank.now) (sym c.in-Rank.is)
 
-returns-in-Refused : tie.Need-returns-in-Refused
-returns-in-Refused c = let a = c.args in ap (λ (r : Ranked). rank_or r a.rank.now) (sym c.in-Refused.is)
+returns-in-Err : tie.Need-returns-in-Err
+returns-in-Err c = let a = c.args in ap (λ (r : Ranked). rank_or r a.rank.now) (sym c.in-Err.is)
 
 pub put_rank_spec : {M : Type 1} → statement M
 put_rank_spec =
     tie.close
     (tie.spec
     enum_known-answer
-    enum_known-answer-in-Refused-1
+    enum_known-answer-in-Err-1
     returns-in-Rank
-    returns-in-Refused)
+    returns-in-Err)

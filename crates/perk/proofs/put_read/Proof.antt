@@ -15,18 +15,18 @@ overflow_cast-n c = omega (arith, (subst SmallSizes c.in-Fields.is c.requires).0
 overflow_cast-m : tie.Need-overflow_cast-m
 overflow_cast-m c = omega (arith, (subst SmallSizes c.in-Fields.is c.requires).1)
 
-enum_known-answer-in-Refused-1 : tie.Need-enum_known-answer-in-Refused-1
-enum_known-answer-in-Refused-1 c = search rules
+enum_known-answer-in-Err-1 : tie.Need-enum_known-answer-in-Err-1
+enum_known-answer-in-Err-1 c = search rules
 
 returns-in-Fields : tie.Need-returns-in-Fields
 returns-in-Fields c =
     let a = c.args in
     ap (λ (r : Read). read_put r (a.n.now, a.m.now, a.serial.now)) (sym c.in-Fields.is)
 
-returns-in-Refused : tie.Need-returns-in-Refused
-returns-in-Refused c =
+returns-in-Err : tie.Need-returns-in-Err
+returns-in-Err c =
     let a = c.args in
-    ap (λ (r : Read). read_put r (a.n.now, a.m.now, a.serial.now)) (sym c.in-Refused.is)
+    ap (λ (r : Read). read_put r (a.n.now, a.m.now, a.serial.now)) (sym c.in-Err.is)
 
 pub put_read_spec : {M : Type 1} → statement M
 put_read_spec =
@@ -35,6 +35,6 @@ put_read_spec =
     enum_known-answer
     overflow_cast-n
     overflow_cast-m
-    enum_known-answer-in-Refused-1
+    enum_known-answer-in-Err-1
     returns-in-Fields
-    returns-in-Refused)
+    returns-in-Err)

@@ -5,7 +5,7 @@ ghost use Rattle.std.specs.Prelude.{◌≡◌, [], ◌∷◌, ◌++◌, ◌+◌,
 ghost use Rattle.lists.specs.Words.{put};
 ghost use Rattle.copying.specs.Words.{words};
 ghost use Rattle.field.specs.Level.{FIRST, level_at};
-ghost use Rattle.key.specs.Key.{key_slices};
+ghost use Rattle.key.specs.Key.{slices_of};
 ghost use Rattle.layout.specs.Tests.{key_of};
 ghost use Rattle.package.specs.Written.{check_form};
 ghost use Rattle.package.specs.Said.{key_data_of, group_of};
@@ -13,7 +13,7 @@ ghost use Rattle.verifier.specs.Entry.{verify_outcome};
 ghost use Rattle.checkfile.specs.Checking.{check_number, content, Accepts, check_of, verdict_of, checking};
 ghost use Rattle.checkfile.specs.Line.{decimal, said_of, printed};
 
-use key::Key;
+use key::{Key, Lent};
 use layout::Row;
 use package::Contents;
 use refusal::{Refusal, Verdict};
@@ -64,9 +64,9 @@ fn load(bytes: &[u8], tag: u8, out: &mut [u16]) -> usize
 }
 
 // The verdict on an accepted check file whose H, x, y and a are lent as words.
-fn judge_with(bytes: &[u8], key: Key, h: &[u16], x: &[u16], y: &[u16], a: &[u16]) -> Result<Verdict, Refusal>
+fn judge_with(bytes: &[u8], lent: &Lent<'_>, a: &[u16]) -> Result<Verdict, Refusal>
     requires { Accepts (level_at FIRST) bytes.now }
-    ensures { result ≡ verify_outcome (level_at FIRST) key (key_slices h.now x.now y.now) (content (level_at FIRST) bytes.now 0x06) (words (content (level_at FIRST) bytes.now 0x11)) (words (content (level_at FIRST) bytes.now 0x13)) (words (content (level_at FIRST) bytes.now 0x12)) (words (content (level_at FIRST) bytes.now 0x14)) a.now }
+    ensures { result ≡ verify_outcome (level_at FIRST) lent.now.key (slices_of lent.now) (content (level_at FIRST) bytes.now 0x06) (words (content (level_at FIRST) bytes.now 0x11)) (words (content (level_at FIRST) bytes.now 0x13)) (words (content (level_at FIRST) bytes.now 0x12)) (words (content (level_at FIRST) bytes.now 0x14)) a.now }
 {
     let mut q = [0u16; ELEMENTS];
     let q_len = load(bytes, Row::Q, &mut q);
@@ -78,10 +78,7 @@ fn judge_with(bytes: &[u8], key: Key, h: &[u16], x: &[u16], y: &[u16], a: &[u16]
     let alpha_len = load(bytes, Row::ALPHA, &mut alpha);
     let t = package::content(bytes, Row::T);
     verifier::verify(
-        key,
-        h,
-        x,
-        y,
+        lent,
         t,
         &q[..q_len],
         &delta[..delta_len],
@@ -105,7 +102,13 @@ fn judge(bytes: &[u8], key: Key) -> Result<Verdict, Refusal>
     let mut a = [0u16; PROOF];
     let a_len = load(bytes, Row::A, &mut a);
     let m = key.m;
-    judge_with(bytes, key, &h[..h_len], &x[..x_len], &y[..m], &a[..a_len])
+    let lent = Lent {
+        key,
+        h: &h[..h_len],
+        x: &x[..x_len],
+        y: &y[..m],
+    };
+    judge_with(bytes, &lent, &a[..a_len])
 }
 
 // Whether a check file's proof is accepted, with what the file says of itself, or the reader's refusal.

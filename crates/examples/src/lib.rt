@@ -7,7 +7,7 @@ ghost use Rattle.lists.specs.Words.{part};
 ghost use Rattle.refusal.specs.Answer.{Done};
 ghost use Rattle.refusal.specs.declared.Verdict.TheVariants.{Accepted};
 ghost use Rattle.field.specs.Level.{FIRST, level_at};
-ghost use Rattle.key.specs.Key.{key_slices};
+ghost use Rattle.key.specs.Key.{slices_of};
 ghost use Rattle.constraints.specs.Slices.{element_at, system_of};
 ghost use Rattle.constraints.specs.Truth.{HonestNumbers, evaluated};
 ghost use Rattle.verifier.specs.Complete.{HonestVerifier};
@@ -38,10 +38,7 @@ pub struct Answers {
 
 // Demand 3, agreement at the challenge: wherever both entries are done and each q is honest, value j is polynomial j at the challenge.
 pub fn agreement(
-    key: Key,
-    h: &[u16],
-    x: &[u16],
-    y: &[u16],
+    lent: &key::Lent<'_>,
     positions: &[u8],
     u: &[u8],
     v: &[u16],
@@ -51,10 +48,10 @@ pub fn agreement(
     delta: &[u16],
     values: &mut [u16],
 ) -> Answers
-    ensures { result.constraints ≡ Done → result.values ≡ Done → HonestNumbers (level_at FIRST) (system_of (level_at FIRST) key.n key.m (key_slices h.now x.now y.now)) u.now v.now q.now delta.now → (j : ℕ) → j < key.n + key.m → element_at (level_at FIRST) values.new j ≡ evaluated (level_at FIRST) (system_of (level_at FIRST) key.n key.m (key_slices h.now x.now y.now)) polynomials.new delta.now j }
+    ensures { result.constraints ≡ Done → result.values ≡ Done → HonestNumbers (level_at FIRST) (system_of (level_at FIRST) lent.now.key.n lent.now.key.m (slices_of lent.now)) u.now v.now q.now delta.now → (j : ℕ) → j < lent.now.key.n + lent.now.key.m → element_at (level_at FIRST) values.new j ≡ evaluated (level_at FIRST) (system_of (level_at FIRST) lent.now.key.n lent.now.key.m (slices_of lent.now)) polynomials.new delta.now j }
 {
-    let written = constraints::constraints(key, h, x, y, positions, u, v, t, polynomials);
-    let valued = constraints::values(key, h, x, y, t, q, delta, values);
+    let written = constraints::constraints(lent, positions, u, v, t, polynomials);
+    let valued = constraints::values(lent, t, q, delta, values);
     Answers {
         constraints: written,
         values: valued,
@@ -69,10 +66,7 @@ pub struct Judgement {
 
 // Completeness: wherever prove is done and the verifier is honest, what prove has written is accepted.
 pub fn completeness(
-    key: Key,
-    h: &[u16],
-    x: &[u16],
-    y: &[u16],
+    lent: &key::Lent<'_>,
     positions: &[u8],
     u: &[u8],
     v: &[u16],
@@ -85,10 +79,10 @@ pub fn completeness(
     delta: &[u16],
     masks: &[u16],
 ) -> Judgement
-    ensures { result.prove ≡ Done → HonestVerifier (level_at FIRST) key (key_slices h.now x.now y.now) u.now v.now r.now s.now q.now delta.now masks.now → result.verify ≡ Ok Accepted }
+    ensures { result.prove ≡ Done → HonestVerifier (level_at FIRST) lent.now.key (slices_of lent.now) u.now v.now r.now s.now q.now delta.now masks.now → result.verify ≡ Ok Accepted }
 {
-    let proved = prover::prove(key, h, x, y, positions, u, v, r, s, alpha, t, a);
-    let judged = verifier::verify(key, h, x, y, t, q, delta, masks, alpha, a);
+    let proved = prover::prove(lent, positions, u, v, r, s, alpha, t, a);
+    let judged = verifier::verify(lent, t, q, delta, masks, alpha, a);
     Judgement {
         prove: proved,
         verify: judged,
@@ -105,19 +99,16 @@ pub struct Stored {
 // A package is written and read back: wherever a length is answered, the reader answers for so many bytes the n, m and serial that were lent, and
 // the part that it finds for a tag holds the content of that field.
 pub fn read_back(
-    key: Key,
-    h: &[u16],
-    x: &[u16],
-    y: &[u16],
+    lent: &key::Lent<'_>,
     serial: u32,
     t: &[u8],
     a: &[u16],
     tag: u8,
     out: &mut [u8],
 ) -> Stored
-    ensures { (k : ℕ) → result.written ≡ Ok k → (result.read ≡ Ok (record { n = key.n; m = key.m; serial = serial })) × (part result.field.start result.field.len (take k out.new) ≡ content_of tag ((package_form (level_at FIRST)).fields (data_of key (key_slices h.now x.now y.now) serial t.now a.now))) }
+    ensures { (k : ℕ) → result.written ≡ Ok k → (result.read ≡ Ok (record { n = lent.now.key.n; m = lent.now.key.m; serial = serial })) × (part result.field.start result.field.len (take k out.new) ≡ content_of tag ((package_form (level_at FIRST)).fields (data_of lent.now.key (slices_of lent.now) serial t.now a.now))) }
 {
-    match writer::write_package(key, h, x, y, serial, t, a, out) {
+    match writer::write_package(lent, serial, t, a, out) {
         Err(refusal) => Stored {
             written: Err(refusal),
             read: Err(refusal),
@@ -155,16 +146,13 @@ fn rewritten(bytes: &[u8], contents: Contents, out: &mut [u8]) -> Result<usize, 
     let n = contents.n;
     let m = contents.m;
     let serial = contents.serial;
-    writer::write_package(
-        Key { n, m },
-        &h[..h_len],
-        &x[..x_len],
-        &y[..m],
-        serial,
-        t,
-        &a[..a_len],
-        out,
-    )
+    let lent = key::Lent {
+        key: Key { n, m },
+        h: &h[..h_len],
+        x: &x[..x_len],
+        y: &y[..m],
+    };
+    writer::write_package(&lent, serial, t, &a[..a_len], out)
 }
 
 // A package that the reader accepts is written again from its own fields: into an output with room for it go those very bytes.
@@ -246,10 +234,7 @@ pub enum Driven {
 
 // Proves where a look says that all is well: prove then never answers 7 or 16. Where it does not say so, prove would not be done.
 pub fn looked_first(
-    key: Key,
-    h: &[u16],
-    x: &[u16],
-    y: &[u16],
+    lent: &key::Lent<'_>,
     positions: &[u8],
     u: &[u8],
     v: &[u16],
@@ -259,12 +244,12 @@ pub fn looked_first(
     t: &mut [u8],
     a: &mut [u16],
 ) -> Driven
-    ensures { LooksFirst (level_at FIRST) key (key_slices h.now x.now y.now) positions.now u.now v.now r.now s.now alpha.now t.old a.old (t.new, a.new) result }
+    ensures { LooksFirst (level_at FIRST) lent.now.key (slices_of lent.now) positions.now u.now v.now r.now s.now alpha.now t.old a.old (t.new, a.new) result }
 {
-    let n = key.n;
+    let n = lent.key.n;
     match order::quick_look(n, positions) {
         Ok(None) => Driven::Proved(prover::prove(
-            key, h, x, y, positions, u, v, r, s, alpha, t, a,
+            lent, positions, u, v, r, s, alpha, t, a,
         )),
         Ok(Some(index)) => Driven::Offender(index),
         Err(refusal) => Driven::Refused(refusal),

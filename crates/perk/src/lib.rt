@@ -27,7 +27,7 @@ ghost use Rattle.writer.specs.Laws.{ReadBack};
 ghost use Rattle.perk.specs.Answered.{found_or, index_or, size_or, answered};
 
 use joining::Size;
-use key::Key;
+use key::{Key, Lent};
 use refusal::Refusal;
 
 // The sum of two elements of K.
@@ -65,7 +65,8 @@ pub extern "C" fn perk_constraints(
     ensures truth { result ≡ 0 → Truth (level_at FIRST) n m (key_slices h.now x.now y.now) positions.now u.now v.now t.new polynomials.new }
 {
     let key = Key { n, m };
-    refusal::number(constraints::constraints(key, h, x, y, positions, u, v, t, polynomials))
+    let lent = Lent { key, h, x, y };
+    refusal::number(constraints::constraints(&lent, positions, u, v, t, polynomials))
 }
 
 // All values.
@@ -85,7 +86,8 @@ pub extern "C" fn perk_values(
     ensures leans { values_leans (level_at FIRST) (record { n = n; m = m }) (key_slices h.now x.now y.now) t.now q.now delta.now values.old (result ≡ 15) }
 {
     let key = Key { n, m };
-    refusal::number(constraints::values(key, h, x, y, t, q, delta, values))
+    let lent = Lent { key, h, x, y };
+    refusal::number(constraints::values(&lent, t, q, delta, values))
 }
 
 // The masked witness and the proof.
@@ -110,7 +112,8 @@ pub extern "C" fn perk_prove(
     ensures solved { Solved (level_at FIRST) (record { n = n; m = m }) (key_slices h.now x.now y.now) positions.now u.now v.now r.now s.now alpha.now t.old a.old (result ≡ 0) (result ≡ 8) (result ≡ 16) }
 {
     let key = Key { n, m };
-    refusal::number(prover::prove(key, h, x, y, positions, u, v, r, s, alpha, t, a))
+    let lent = Lent { key, h, x, y };
+    refusal::number(prover::prove(&lent, positions, u, v, r, s, alpha, t, a))
 }
 
 // Whether the proof is accepted.
@@ -133,7 +136,8 @@ pub extern "C" fn perk_verify(
     ensures judges { Judges (level_at FIRST) (record { n = n; m = m }) (key_slices h.now x.now y.now) t.now q.now delta.now masks.now alpha.now a.now (result ≡ 0) (result ≡ 255) }
 {
     let key = Key { n, m };
-    refusal::verdict_number(verifier::verify(key, h, x, y, t, q, delta, masks, alpha, a))
+    let lent = Lent { key, h, x, y };
+    refusal::verdict_number(verifier::verify(&lent, t, q, delta, masks, alpha, a))
 }
 
 // The number of an answer; what was found is written where it is no refusal.
@@ -321,8 +325,9 @@ pub extern "C" fn perk_write_package(
     ensures reads { result ≡ 0 → ReadBack (level_at FIRST) (record { n = n; m = m }) (key_slices h.now x.now y.now) serial t.now a.now length.new out.new }
 {
     let key = Key { n, m };
+    let lent = Lent { key, h, x, y };
     put(
-        writer::write_package(key, h, x, y, serial, t, a, out),
+        writer::write_package(&lent, serial, t, a, out),
         length,
     )
 }

@@ -5,7 +5,7 @@ use Rattle.constraints.proofs.Done.{values-done}
 use Prim.Native.Nat.{ℕ}
 use mathlib.Core.Path.{ap, ◌∙◌}
 use borrow.Author.Rules.{rules}
-use Rattle.key.specs.Key.{key_slices}
+use Rattle.key.specs.Key.{slices_of}
 use Rattle.examples.proofs.agreement.Statement.{statement}
 use Rattle.examples.proofs.agreement.Tie as tie
 
@@ -27,7 +27,7 @@ shape_of-values c = search rules
 returns : tie.Need-returns
 returns c written valued honest j l =
     let a = c.args in
-    ap (λ (s : List ℕ). element_at (level_at FIRST) s j) (values-done (level_at FIRST) a.key (key_slices a.h.now a.x.now a.y.now) _ a.q.now a.delta.now a.values.now c.values-valued.ensures.0 valued)
+    ap (λ (s : List ℕ). element_at (level_at FIRST) s j) (values-done (level_at FIRST) a.lent.now.key (slices_of a.lent.now) _ a.q.now a.delta.now a.values.now c.values-valued.ensures.0 valued)
     ∙ (c.constraints-written.ensures.1.1 written).agrees.each a.q.now a.delta.now honest j l
 
 pub agreement_spec : {M : Type 1} → statement M

@@ -1,6 +1,6 @@
 use borrow.Author.Rules.{rules}
 use Rattle.field.specs.Level.{FIRST}
-use Rattle.key.specs.Key.{key_slices}
+use Rattle.key.specs.Key.{slices_of}
 use Rattle.examples.proofs.Accepted.{accepted}
 use Rattle.examples.proofs.completeness.Statement.{statement}
 use Rattle.examples.proofs.completeness.Tie as tie
@@ -21,7 +21,7 @@ returns : tie.Need-returns
 returns c =
     let a = c.args in
     let p = c.prove-proved.ensures in
-    accepted FIRST a.key (key_slices a.h.now a.x.now a.y.now) a.positions.now a.u.now a.v.now a.r.now a.s.now a.alpha.now a.t.now a.a.now a.q.now a.delta.now a.masks.now p.0 p.1.1 c.verify-judged.ensures.0
+    accepted FIRST a.lent.now.key (slices_of a.lent.now) a.positions.now a.u.now a.v.now a.r.now a.s.now a.alpha.now a.t.now a.a.now a.q.now a.delta.now a.masks.now p.0 p.1.1 c.verify-judged.ensures.0
 
 pub completeness_spec : {M : Type 1} → statement M
 completeness_spec =

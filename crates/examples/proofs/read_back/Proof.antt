@@ -2,7 +2,7 @@ use Prim.Native.Nat.{ℕ}
 use mathlib.Core.Path.{◌≡◌, sym}
 use native.Mathlib.Omega.{arith}
 use lib.Seq.{length-take-le}
-use Rattle.key.specs.Key.{key_slices}
+use Rattle.key.specs.Key.{slices_of}
 use Rattle.examples.proofs.Packages.{carried}
 use borrow.Author.Rules.{rules}
 use Rattle.examples.proofs.read_back.Statement.{statement}
@@ -47,7 +47,7 @@ shape_of-out-in-Length c = search rules
 returns-in-Length : tie.Need-returns-in-Length
 returns-in-Length c =
     let a = c.args in
-    carried a.key (key_slices a.h.now a.x.now a.y.now) a.serial a.t.now a.a.now a.tag _ c.in-Length.len (c.write_package.ensures.1.1 c.in-Length.len c.in-Length.is) c.read_package.ensures c.field_part.ensures
+    carried a.lent.now.key (slices_of a.lent.now) a.serial a.t.now a.a.now a.tag _ c.in-Length.len (c.write_package.ensures.1.1 c.in-Length.len c.in-Length.is) c.read_package.ensures c.field_part.ensures
 
 pub read_back_spec : {M : Type 1} → statement M
 read_back_spec =

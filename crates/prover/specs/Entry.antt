@@ -1,8 +1,9 @@
 -- What the entry prove answers and writes.
+use Rattle.refusal.specs.declared.Refusal.{Refusal}
+use Rattle.refusal.specs.declared.Refusal.TheVariants.{Top}
 use Rattle.std.specs.Prelude.{Bool, not, List, [], ◌∷◌, ◌++◌, ℕ}
 use Rattle.lists.specs.Lent.{long}
-use Rattle.refusal.specs.Answer.{decided}
-use Rattle.refusal.specs.declared.Answer.{Answer}
+use Rattle.refusal.specs.Answer.{decided, Answer}
 use Rattle.field.specs.declared.Level.{Level}
 use Rattle.key.specs.declared.Key.{Key}
 use Rattle.key.specs.declared.Lengths.{Lengths}
@@ -27,12 +28,12 @@ prove_lent len lent positions u v r s α t a =
 
 module _ (l : Level) (key : Key) where
   -- refusals 1 to 7, and 15 after 4, in order
-  abbrev pub rows_to7 : KeySlices → (positions u v r s α t a : List ℕ) → List (Bool × ℕ)
+  abbrev pub rows_to7 : KeySlices → (positions u v r s α t a : List ℕ) → List (Bool × Refusal)
   rows_to7 lent positions u v r s α t a =
       sizes l key ++ checks l key (long (prove_lent (lengths l key) lent positions u v r s α t a)) lent (below 1 u) (withins l (v ∷ r ∷ s ∷ α ∷ [])) (codes_of key.n positions)
 
   -- and 16, "after 7 and before 8"
-  abbrev pub prove_rows : KeySlices → (positions u v r s α t a : List ℕ) → List (Bool × ℕ)
+  abbrev pub prove_rows : KeySlices → (positions u v r s α t a : List ℕ) → List (Bool × Refusal)
   prove_rows lent positions u v r s α t a = rows_to7 lent positions u v r s α t a ++ spare_row (codes_of key.n positions)
 
   -- past 1 to 4, 15 is the answer exactly when the rows of H lean on each other
@@ -40,8 +41,8 @@ module _ (l : Level) (key : Key) where
   prove_leans lent positions u v r s α t a = Leans l key (long (prove_lent (lengths l key) lent positions u v r s α t a)) lent
 
   -- "prove, before writing": 8 "some top coefficient of the n + m polynomials isn't zero"
-  abbrev pub tops_row : KeySlices → (positions v : List ℕ) → List (Bool × ℕ)
-  tops_row lent positions v = (not (tops_zero l (system l key lent) (witness_of key.n positions) v), 8) ∷ []
+  abbrev pub tops_row : KeySlices → (positions v : List ℕ) → List (Bool × Refusal)
+  tops_row lent positions v = (not (tops_zero l (system l key lent) (witness_of key.n positions) v), Top) ∷ []
 
   -- t and a, as they are left
   abbrev pub prove_result : KeySlices → (positions u v r s α : List ℕ) → List ℕ × List ℕ

@@ -1,10 +1,10 @@
 // The entry prove: the specification, 'CheckZero', the prover's side.
 #![tactic(auto)]
 
-ghost use Rattle.std.specs.Prelude.{◌≡◌, List, ℕ, eqb, length};
+ghost use Rattle.refusal.specs.declared.Refusal.TheVariants.{Top, DependentRows, SpareCode};
+ghost use Rattle.std.specs.Prelude.{◌≡◌, List, ℕ, eqb, length, Err};
 ghost use Rattle.lists.specs.Lent.{long};
-ghost use Rattle.refusal.specs.Answer.{refusal, first_of, decided};
-ghost use Rattle.refusal.specs.declared.Answer.TheVariants.{Done};
+ghost use Rattle.refusal.specs.Answer.{first_of, decided, Done};
 ghost use Rattle.field.specs.Level.{FIRST, level_at};
 ghost use Rattle.row.specs.Lent.{LentKey, LentTarget};
 ghost use Rattle.key.specs.Key.{Sized, key_slices, lengths};
@@ -23,7 +23,7 @@ const ELEMENTS: usize = 1524;
 
 const WORK: usize = 5376;
 
-// Zero exactly when each slice has its length.
+// Whether each slice has its length.
 fn lengths(
     key: Key,
     h: &[u16],
@@ -37,20 +37,25 @@ fn lengths(
     alpha: &[u16],
     t: &[u8],
     a: &[u16],
-) -> usize
+) -> bool
     requires { Sized (level_at FIRST) key }
-    ensures { eqb result 0 ≡ long (prove_lent (lengths (level_at FIRST) key) (key_slices h.now x.now y.now) positions.now u.now v.now r.now s.now alpha.now t.now a.now) }
+    ensures { result ≡ long (prove_lent (lengths (level_at FIRST) key) (key_slices h.now x.now y.now) positions.now u.now v.now r.now s.now alpha.now t.now a.now) }
 {
     let len = key.lengths(FIRST);
-    let outputs = (t.len() ^ len.bits) | (a.len() ^ len.proof);
-    let masks = (r.len() ^ len.masks)
-        | ((s.len() ^ len.masks) | ((alpha.len() ^ len.values) | outputs));
-    let material = (positions.len() ^ len.positions)
-        | ((u.len() ^ len.bits) | ((v.len() ^ len.elements) | masks));
-    (h.len() ^ len.matrix) | ((x.len() ^ len.vector) | ((y.len() ^ len.target) | material))
+    h.len() == len.matrix
+        && x.len() == len.vector
+        && y.len() == len.target
+        && positions.len() == len.positions
+        && u.len() == len.bits
+        && v.len() == len.elements
+        && r.len() == len.masks
+        && s.len() == len.masks
+        && alpha.len() == len.values
+        && t.len() == len.bits
+        && a.len() == len.proof
 }
 
-// The first of refusals 1 to 7, 15 and 16 that applies, or Done.
+// The first of refusals 1 to 7, 15 and 16 that applies; Ok where none does.
 fn refused(
     key: Key,
     h: &[u16],
@@ -67,18 +72,11 @@ fn refused(
 ) -> Answer
     ensures { result ≡ first_of (prove_rows (level_at FIRST) key (key_slices h.now x.now y.now) positions.now u.now v.now r.now s.now alpha.now t.now a.now) }
 {
-    let sizes = key.sizes(FIRST);
-    if let Answer::Refused(_) = sizes {
-        return sizes;
+    key.sizes(FIRST)?;
+    if !lengths(key, h, x, y, positions, u, v, r, s, alpha, t, a) {
+        return Err(Refusal::SliceLength);
     }
-    let slices = lengths(key, h, x, y, positions, u, v, r, s, alpha, t, a);
-    if slices != 0 {
-        return Answer::Refused(Refusal::SLICE_LENGTH);
-    }
-    let contents = key.contents(h, x, y, FIRST);
-    if let Answer::Refused(_) = contents {
-        return contents;
-    }
+    key.contents(h, x, y, FIRST)?;
     let coordinates = field::excess(v, FIRST)
         | (field::excess(r, FIRST) | (field::excess(s, FIRST) | field::excess(alpha, FIRST)));
     key::material(key::over(u, 1), coordinates, key.codes(positions))
@@ -126,14 +124,14 @@ fn weigh(
     ensures { (result, (t.new, a.new)) ≡ decided (tops_row (level_at FIRST) key (key_slices h.now x.now y.now) positions.now v.now) (prove_result (level_at FIRST) key (key_slices h.now x.now y.now) positions.now u.now v.now r.now s.now alpha.now) (t.old, a.old) }
 {
     if tops(key, h, x, y, positions, p, work) != 0 {
-        return Answer::Refused(Refusal::TOP);
+        return Err(Refusal::Top);
     }
     constraints::write_masked_witness(key, positions, u, t);
     let n = key.n;
     let m = key.m;
     let d = key.degree();
     checkzero::proof(a, n, m, d, h, x, positions, v, alpha, r, s, p, work, FIRST);
-    Answer::Done
+    Ok(())
 }
 
 // The same, with room of its own.
@@ -190,12 +188,9 @@ pub fn prove(
     a: &mut [u16],
 ) -> Answer
     ensures outcome { (result, (t.new, a.new)) ≡ prove_outcome (level_at FIRST) key (key_slices h.now x.now y.now) positions.now u.now v.now r.now s.now alpha.now t.old a.old }
-    ensures leans { prove_leans (level_at FIRST) key (key_slices h.now x.now y.now) positions.now u.now v.now r.now s.now alpha.now t.old a.old (result ≡ refusal 15) }
-    ensures solved { Solved (level_at FIRST) key (key_slices h.now x.now y.now) positions.now u.now v.now r.now s.now alpha.now t.old a.old (result ≡ Done) (result ≡ refusal 8) (result ≡ refusal 16) }
+    ensures leans { prove_leans (level_at FIRST) key (key_slices h.now x.now y.now) positions.now u.now v.now r.now s.now alpha.now t.old a.old (result ≡ Err DependentRows) }
+    ensures solved { Solved (level_at FIRST) key (key_slices h.now x.now y.now) positions.now u.now v.now r.now s.now alpha.now t.old a.old (result ≡ Done) (result ≡ Err Top) (result ≡ Err SpareCode) }
 {
-    let answer = refused(key, h, x, y, positions, u, v, r, s, alpha, t, a);
-    match answer {
-        Answer::Done => work(key, h, x, y, positions, u, v, r, s, alpha, t, a),
-        Answer::Refused(_) => answer,
-    }
+    refused(key, h, x, y, positions, u, v, r, s, alpha, t, a)?;
+    work(key, h, x, y, positions, u, v, r, s, alpha, t, a)
 }

@@ -1,3 +1,4 @@
+use Rattle.refusal.specs.declared.Refusal.TheVariants.{Top}
 use mathlib.Core.List.{List, []}
 use mathlib.Core.Path.{◌≡◌, refl, sym, ap, ap₂, subst, ◌∙◌}
 use Prim.Native.Nat.{ℕ, ◌+◌, ◌-◌, ◌*◌, ◌^◌, ◌≤◌, ◌<◌}
@@ -49,7 +50,7 @@ shape_of-work-then-tops-ne0 c = search rules
 returns-then-tops-ne0 : tie.Need-returns-then-tops-ne0
 returns-then-tops-ne0 c =
     let a = c.args in
-    when_refused (tops_row (level_at FIRST) a.key (key_slices a.h.now a.x.now a.y.now) a.positions.now a.v.now) (prove_result (level_at FIRST) a.key (key_slices a.h.now a.x.now a.y.now) a.positions.now a.u.now a.v.now a.r.now a.s.now a.alpha.now) (a.t.now, a.a.now) (sym (stop 8 [] (above (tested c.before.before.before.before.before) c.if-tops-ne0.true))) refl
+    when_refused (tops_row (level_at FIRST) a.key (key_slices a.h.now a.x.now a.y.now) a.positions.now a.v.now) (prove_result (level_at FIRST) a.key (key_slices a.h.now a.x.now a.y.now) a.positions.now a.u.now a.v.now a.r.now a.s.now a.alpha.now) (a.t.now, a.a.now) (sym (stop Top [] (above (tested c.before.before.before.before.before) c.if-tops-ne0.true))) refl
 
 write_masked_witness-requires : tie.Need-write_masked_witness-requires
 write_masked_witness-requires c κs =
@@ -102,7 +103,7 @@ returns c =
     let a = c.args in
     let n = a.key.n in
     let m = a.key.m in
-    when_done (tops_row (level_at FIRST) a.key (key_slices a.h.now a.x.now a.y.now) a.positions.now a.v.now) (prove_result (level_at FIRST) a.key (key_slices a.h.now a.x.now a.y.now) a.positions.now a.u.now a.v.now a.r.now a.s.now a.alpha.now) (a.t.now, a.a.now) (sym (pass 8 [] (fine (tested c.before.before.before.before.before.before.before.before.before.before.before.before.before.before.before.before.before.before.before.before) c.if-tops-ne0.false))) refl
+    when_done (tops_row (level_at FIRST) a.key (key_slices a.h.now a.x.now a.y.now) a.positions.now a.v.now) (prove_result (level_at FIRST) a.key (key_slices a.h.now a.x.now a.y.now) a.positions.now a.u.now a.v.now a.r.now a.s.now a.alpha.now) (a.t.now, a.a.now) (sym (pass Top [] (fine (tested c.before.before.before.before.before.before.before.before.before.before.before.before.before.before.before.before.before.before.before.before) c.if-tops-ne0.false))) refl
     (ap₂ (λ (t a : List ℕ). (t, a)) (c.write_masked_witness.ensures (key_slices a.h.now a.x.now a.y.now))
     (c.proof.ensures a.y.now
     ∙ ap (λ d. concat d (λ k. words (level_at FIRST) ((K (level_at FIRST)).add (weighted_at (level_at FIRST) n m d a.h.now a.x.now a.y.now a.positions.now a.v.now a.alpha.now k) (mask (K (level_at FIRST)) (d - 1) (el (level_at FIRST) a.r.now) (el (level_at FIRST) a.s.now) k)))) c.degree-d.ensures

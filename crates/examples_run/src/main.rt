@@ -2,8 +2,8 @@
 // An element of K is printed as its coordinate 0, then each other coordinate c that is not zero as +cY^i.
 #![tactic(auto)]
 
-use key::Key;
-use refusal::{Answer, Verdict};
+use key::{Key, Lent};
+use refusal::{Answer, Refusal, Verdict};
 use std::{fmt, io};
 
 // The coordinates of an element.
@@ -24,13 +24,10 @@ struct Elements<'a> {
 #[derive(Clone, Copy)]
 struct Coordinates<'a>(&'a [u16]);
 
-// What the prover and the verifier are both lent: a key with H, x and y, and the weights.
+// What the prover and the verifier are both lent: a key and the weights.
 #[derive(Clone, Copy)]
 struct Statement<'a> {
-    key: Key,
-    h: &'a [u16],
-    x: &'a [u16],
-    y: &'a [u16],
+    lent: Lent<'a>,
     alpha: &'a [u16],
 }
 
@@ -113,10 +110,7 @@ impl Statement<'_> {
     // Prints what constraints answers, and tells whether it has written.
     fn constraints(&self, rt: &impl Print, prover: &Prover, room: &mut Room) -> io::Result<bool> {
         let answer = constraints::constraints(
-            self.key,
-            self.h,
-            self.x,
-            self.y,
+            &self.lent,
             prover.positions,
             prover.u,
             prover.v,
@@ -129,10 +123,7 @@ impl Statement<'_> {
     // The same of prove.
     fn prove(&self, rt: &impl Print, prover: &Prover, room: &mut Room) -> io::Result<bool> {
         let answer = prover::prove(
-            self.key,
-            self.h,
-            self.x,
-            self.y,
+            &self.lent,
             prover.positions,
             prover.u,
             prover.v,
@@ -148,17 +139,14 @@ impl Statement<'_> {
     // The same of values.
     fn values(&self, rt: &impl Print, verifier: &Verifier, values: &mut [u16]) -> io::Result<bool> {
         let Verifier { t, q, delta, .. } = *verifier;
-        let answer = constraints::values(self.key, self.h, self.x, self.y, t, q, delta, values);
+        let answer = constraints::values(&self.lent, t, q, delta, values);
         done(rt, answer)
     }
 
     // Prints what verify answers for this proof.
     fn verify(&self, rt: &impl Print, verifier: &Verifier, a: &[u16]) -> io::Result<()> {
         let verdict = verifier::verify(
-            self.key,
-            self.h,
-            self.x,
-            self.y,
+            &self.lent,
             verifier.t,
             verifier.q,
             verifier.delta,
@@ -191,10 +179,12 @@ impl Room<'_> {
 impl Example {
     fn statement(&self) -> Statement<'_> {
         Statement {
-            key: self.key,
-            h: &self.h,
-            x: &self.x,
-            y: &self.y,
+            lent: Lent {
+                key: self.key,
+                h: &self.h,
+                x: &self.x,
+                y: &self.y,
+            },
             alpha: &self.alpha,
         }
     }
@@ -219,37 +209,20 @@ impl Example {
     }
 }
 
-fn text(rt: &impl Print, s: &[u8]) -> io::Result<()> {
-    rt.write_all(s)
-}
-
-fn number(rt: &impl Print, n: u64) -> io::Result<()> {
-    print!(rt; "{n}")
-}
-
-// Whether the answer is Done.
+// Prints the answer, and tells whether it is done.
 fn done(rt: &impl Print, answer: Answer) -> io::Result<bool> {
     match answer {
-        Answer::Done => {
-            text(rt, b" done")?;
-            Ok(true)
-        }
-        Answer::Refused(refusal) => {
-            text(rt, b" refused ")?;
-            number(rt, refusal.number as u64)?;
-            Ok(false)
-        }
+        Ok(()) => print!(rt; " done")?,
+        Err(refusal) => print!(rt; " refused {}", refusal.number())?,
     }
+    Ok(answer.is_ok())
 }
 
-fn judged(rt: &impl Print, verdict: Verdict) -> io::Result<()> {
-    match verdict {
-        Verdict::Accepted => text(rt, b" accepted"),
-        Verdict::Rejected => text(rt, b" rejected"),
-        Verdict::Refused(refusal) => {
-            text(rt, b" refused ")?;
-            number(rt, refusal.number as u64)
-        }
+fn judged(rt: &impl Print, answer: Result<Verdict, Refusal>) -> io::Result<()> {
+    match answer {
+        Ok(Verdict::Accepted) => print!(rt; " accepted"),
+        Ok(Verdict::Rejected) => print!(rt; " rejected"),
+        Err(refusal) => print!(rt; " refused {}", refusal.number()),
     }
 }
 
@@ -351,10 +324,12 @@ fn verify_a(rt: &impl Print, name: &str, y: u16, t: &[u8]) -> io::Result<()> {
 // n = 3, m = 1, H = 1 0 0 and x = 0 1 2 with this y and these positions.
 fn prove_three(rt: &impl Print, name: &str, y: u16, positions: &[u8]) -> io::Result<()> {
     let statement = Statement {
-        key: Key { n: 3, m: 1 },
-        h: &[1, 0, 0],
-        x: &[0, 1, 2],
-        y: &[y],
+        lent: Lent {
+            key: Key { n: 3, m: 1 },
+            h: &[1, 0, 0],
+            x: &[0, 1, 2],
+            y: &[y],
+        },
         alpha: &embedded::<48>(&[1, 2, 3, 4]),
     };
     let prover = Prover {
@@ -451,10 +426,12 @@ fn largest(rt: &impl Print) -> io::Result<()> {
     alpha[1512] = 2;
     let masks = [0u16; 60];
     let statement = Statement {
-        key: Key { n: 64, m: 63 },
-        h: &units(),
-        x: &[0; 64],
-        y: &[0; 63],
+        lent: Lent {
+            key: Key { n: 64, m: 63 },
+            h: &units(),
+            x: &[0; 64],
+            y: &[0; 63],
+        },
         alpha: &alpha,
     };
     let prover = Prover {

@@ -7,7 +7,7 @@ ghost use Rattle.lists.specs.Lent.{long};
 ghost use Rattle.refusal.specs.Answer.{first_of, decided, Done};
 ghost use Rattle.field.specs.Level.{FIRST, level_at};
 ghost use Rattle.row.specs.Lent.{LentKey, LentTarget};
-ghost use Rattle.key.specs.Key.{Sized, key_slices, lengths};
+ghost use Rattle.key.specs.Key.{Sized, slices_of, lengths};
 ghost use Rattle.constraints.specs.Entry.{system};
 ghost use Rattle.constraints.specs.Slices.{witness_of};
 ghost use Rattle.checkzero.specs.Slices.{tops_zero};
@@ -15,7 +15,7 @@ ghost use Rattle.prover.specs.Entry.{prove_lent, prove_rows, prove_leans, tops_r
 ghost use Rattle.prover.specs.Solved.{Solved};
 
 use field::FIRST;
-use key::Key;
+use key::Lent;
 use refusal::{Answer, Refusal};
 
 // Words of work space, at the widest level: n + m elements, and d + 1 coefficients for each of 2^d columns.
@@ -25,10 +25,7 @@ const WORK: usize = 5376;
 
 // Whether each slice has its length.
 fn lengths(
-    key: Key,
-    h: &[u16],
-    x: &[u16],
-    y: &[u16],
+    lent: &Lent<'_>,
     positions: &[u8],
     u: &[u8],
     v: &[u16],
@@ -38,13 +35,13 @@ fn lengths(
     t: &[u8],
     a: &[u16],
 ) -> bool
-    requires { Sized (level_at FIRST) key }
-    ensures { result ≡ long (prove_lent (lengths (level_at FIRST) key) (key_slices h.now x.now y.now) positions.now u.now v.now r.now s.now alpha.now t.now a.now) }
+    requires { Sized (level_at FIRST) lent.now.key }
+    ensures { result ≡ long (prove_lent (lengths (level_at FIRST) lent.now.key) (slices_of lent.now) positions.now u.now v.now r.now s.now alpha.now t.now a.now) }
 {
-    let len = key.lengths(FIRST);
-    h.len() == len.matrix
-        && x.len() == len.vector
-        && y.len() == len.target
+    let len = lent.key.lengths(FIRST);
+    lent.h.len() == len.matrix
+        && lent.x.len() == len.vector
+        && lent.y.len() == len.target
         && positions.len() == len.positions
         && u.len() == len.bits
         && v.len() == len.elements
@@ -57,10 +54,7 @@ fn lengths(
 
 // The first of refusals 1 to 7, 15 and 16 that applies; Ok where none does.
 fn refused(
-    key: Key,
-    h: &[u16],
-    x: &[u16],
-    y: &[u16],
+    lent: &Lent<'_>,
     positions: &[u8],
     u: &[u8],
     v: &[u16],
@@ -70,44 +64,44 @@ fn refused(
     t: &[u8],
     a: &[u16],
 ) -> Answer
-    ensures { result ≡ first_of (prove_rows (level_at FIRST) key (key_slices h.now x.now y.now) positions.now u.now v.now r.now s.now alpha.now t.now a.now) }
+    ensures { result ≡ first_of (prove_rows (level_at FIRST) lent.now.key (slices_of lent.now) positions.now u.now v.now r.now s.now alpha.now t.now a.now) }
 {
-    key.sizes(FIRST)?;
-    if !lengths(key, h, x, y, positions, u, v, r, s, alpha, t, a) {
+    lent.key.sizes(FIRST)?;
+    if !lengths(lent, positions, u, v, r, s, alpha, t, a) {
         return Err(Refusal::SliceLength);
     }
-    key.contents(h, x, y, FIRST)?;
+    lent.contents(FIRST)?;
     let coordinates = field::excess(v, FIRST)
         | (field::excess(r, FIRST) | (field::excess(s, FIRST) | field::excess(alpha, FIRST)));
-    key::material(key::over(u, 1), coordinates, key.codes(positions))
+    key::material(key::over(u, 1), coordinates, lent.key.codes(positions))
 }
 
 // Zero exactly when all n + m top coefficients are zero; they do not depend on the offsets. p is room for them, work for 2^d elements.
-fn tops(
-    key: Key,
-    h: &[u16],
-    x: &[u16],
-    y: &[u16],
-    positions: &[u8],
-    p: &mut [u16],
-    work: &mut [u16],
-) -> u16
-    requires sized { Sized (level_at FIRST) key × LentKey (level_at FIRST) key.n key.m h.now x.now × LentTarget (level_at FIRST) key.m y.now }
-    requires positions_len { (length positions.now ≡ (lengths (level_at FIRST) key).positions) × (length p.old ≡ 1524) × (length work.old ≡ 5376) }
-    ensures { (v : List ℕ) → eqb result 0 ≡ tops_zero (level_at FIRST) (system (level_at FIRST) key (key_slices h.now x.now y.now)) (witness_of key.n positions.now) v }
+fn tops(lent: &Lent<'_>, positions: &[u8], p: &mut [u16], work: &mut [u16]) -> u16
+    requires sized { Sized (level_at FIRST) lent.now.key × LentKey (level_at FIRST) lent.now.key.n lent.now.key.m lent.now.h.now lent.now.x.now × LentTarget (level_at FIRST) lent.now.key.m lent.now.y.now }
+    requires positions_len { (length positions.now ≡ (lengths (level_at FIRST) lent.now.key).positions) × (length p.old ≡ 1524) × (length work.old ≡ 5376) }
+    ensures { (v : List ℕ) → eqb result 0 ≡ tops_zero (level_at FIRST) (system (level_at FIRST) lent.now.key (slices_of lent.now)) (witness_of lent.now.key.n positions.now) v }
 {
-    let n = key.n;
-    let m = key.m;
-    rows::tops(p, n, m, key.degree(), h, x, y, positions, work, FIRST);
+    let n = lent.key.n;
+    let m = lent.key.m;
+    rows::tops(
+        p,
+        n,
+        m,
+        lent.key.degree(),
+        lent.h,
+        lent.x,
+        lent.y,
+        positions,
+        work,
+        FIRST,
+    );
     checkzero::nonzero(p, n + m, FIRST)
 }
 
 // Where all tops are zero, writes t and a; otherwise refuses with 8. p is room for n + m elements, work for (d + 1) 2^d.
 fn weigh(
-    key: Key,
-    h: &[u16],
-    x: &[u16],
-    y: &[u16],
+    lent: &Lent<'_>,
     positions: &[u8],
     u: &[u8],
     v: &[u16],
@@ -119,27 +113,26 @@ fn weigh(
     p: &mut [u16],
     work: &mut [u16],
 ) -> Answer
-    requires a_value { first_of (prove_rows (level_at FIRST) key (key_slices h.now x.now y.now) positions.now u.now v.now r.now s.now alpha.now t.old a.old) ≡ Done }
+    requires a_value { first_of (prove_rows (level_at FIRST) lent.now.key (slices_of lent.now) positions.now u.now v.now r.now s.now alpha.now t.old a.old) ≡ Done }
     requires p_len { (length p.old ≡ 1524) × (length work.old ≡ 5376) }
-    ensures { (result, (t.new, a.new)) ≡ decided (tops_row (level_at FIRST) key (key_slices h.now x.now y.now) positions.now v.now) (prove_result (level_at FIRST) key (key_slices h.now x.now y.now) positions.now u.now v.now r.now s.now alpha.now) (t.old, a.old) }
+    ensures { (result, (t.new, a.new)) ≡ decided (tops_row (level_at FIRST) lent.now.key (slices_of lent.now) positions.now v.now) (prove_result (level_at FIRST) lent.now.key (slices_of lent.now) positions.now u.now v.now r.now s.now alpha.now) (t.old, a.old) }
 {
-    if tops(key, h, x, y, positions, p, work) != 0 {
+    if tops(lent, positions, p, work) != 0 {
         return Err(Refusal::Top);
     }
-    constraints::write_masked_witness(key, positions, u, t);
-    let n = key.n;
-    let m = key.m;
-    let d = key.degree();
-    checkzero::proof(a, n, m, d, h, x, positions, v, alpha, r, s, p, work, FIRST);
+    constraints::write_masked_witness(lent.key, positions, u, t);
+    let n = lent.key.n;
+    let m = lent.key.m;
+    let d = lent.key.degree();
+    checkzero::proof(
+        a, n, m, d, lent.h, lent.x, positions, v, alpha, r, s, p, work, FIRST,
+    );
     Ok(())
 }
 
 // The same, with room of its own.
 fn work(
-    key: Key,
-    h: &[u16],
-    x: &[u16],
-    y: &[u16],
+    lent: &Lent<'_>,
     positions: &[u8],
     u: &[u8],
     v: &[u16],
@@ -149,16 +142,13 @@ fn work(
     t: &mut [u8],
     a: &mut [u16],
 ) -> Answer
-    requires { first_of (prove_rows (level_at FIRST) key (key_slices h.now x.now y.now) positions.now u.now v.now r.now s.now alpha.now t.old a.old) ≡ Done }
-    ensures { (result, (t.new, a.new)) ≡ decided (tops_row (level_at FIRST) key (key_slices h.now x.now y.now) positions.now v.now) (prove_result (level_at FIRST) key (key_slices h.now x.now y.now) positions.now u.now v.now r.now s.now alpha.now) (t.old, a.old) }
+    requires { first_of (prove_rows (level_at FIRST) lent.now.key (slices_of lent.now) positions.now u.now v.now r.now s.now alpha.now t.old a.old) ≡ Done }
+    ensures { (result, (t.new, a.new)) ≡ decided (tops_row (level_at FIRST) lent.now.key (slices_of lent.now) positions.now v.now) (prove_result (level_at FIRST) lent.now.key (slices_of lent.now) positions.now u.now v.now r.now s.now alpha.now) (t.old, a.old) }
 {
     let mut elements = [0u16; ELEMENTS];
     let mut work = [0u16; WORK];
     weigh(
-        key,
-        h,
-        x,
-        y,
+        lent,
         positions,
         u,
         v,
@@ -174,10 +164,7 @@ fn work(
 
 // Writes t, the masked witness, and a, the proof.
 pub fn prove(
-    key: Key,
-    h: &[u16],
-    x: &[u16],
-    y: &[u16],
+    lent: &Lent<'_>,
     positions: &[u8],
     u: &[u8],
     v: &[u16],
@@ -187,10 +174,10 @@ pub fn prove(
     t: &mut [u8],
     a: &mut [u16],
 ) -> Answer
-    ensures outcome { (result, (t.new, a.new)) ≡ prove_outcome (level_at FIRST) key (key_slices h.now x.now y.now) positions.now u.now v.now r.now s.now alpha.now t.old a.old }
-    ensures leans { prove_leans (level_at FIRST) key (key_slices h.now x.now y.now) positions.now u.now v.now r.now s.now alpha.now t.old a.old (result ≡ Err DependentRows) }
-    ensures solved { Solved (level_at FIRST) key (key_slices h.now x.now y.now) positions.now u.now v.now r.now s.now alpha.now t.old a.old (result ≡ Done) (result ≡ Err Top) (result ≡ Err SpareCode) }
+    ensures outcome { (result, (t.new, a.new)) ≡ prove_outcome (level_at FIRST) lent.now.key (slices_of lent.now) positions.now u.now v.now r.now s.now alpha.now t.old a.old }
+    ensures leans { prove_leans (level_at FIRST) lent.now.key (slices_of lent.now) positions.now u.now v.now r.now s.now alpha.now t.old a.old (result ≡ Err DependentRows) }
+    ensures solved { Solved (level_at FIRST) lent.now.key (slices_of lent.now) positions.now u.now v.now r.now s.now alpha.now t.old a.old (result ≡ Done) (result ≡ Err Top) (result ≡ Err SpareCode) }
 {
-    refused(key, h, x, y, positions, u, v, r, s, alpha, t, a)?;
-    work(key, h, x, y, positions, u, v, r, s, alpha, t, a)
+    refused(lent, positions, u, v, r, s, alpha, t, a)?;
+    work(lent, positions, u, v, r, s, alpha, t, a)
 }

@@ -11,7 +11,7 @@ use Rattle.refusal.proofs.Answers.{when_refused, after-refused, decided-after}
 use Rattle.field.specs.Level.{FIRST, level_at}
 use Rattle.prover.specs.Entry.{prove_lent, prove_rows, prove_leans, tops_row, prove_result, prove_outcome}
 use Rattle.key.specs.declared.Key.{Key}
-use Rattle.key.specs.Key.{KeySlices, key_slices, lengths, below, codes_of, withins, spare_row}
+use Rattle.key.specs.Key.{KeySlices, slices_of, lengths, below, codes_of, withins, spare_row}
 use Rattle.key.proofs.Leans.{leans}
 use Rattle.prover.proofs.Solved.{solved}
 use Rattle.prover.proofs.prove.Goals as goal
@@ -24,26 +24,26 @@ pub returns-in_err-refused : goal.returns-in_err-refused
 unfolding prove_outcome
 returns-in_err-refused c =
     let a = c.args in
-    let lent = key_slices a.h.now a.x.now a.y.now in
-    let rows = prove_rows (level_at FIRST) a.key lent a.positions.now a.u.now a.v.now a.r.now a.s.now a.alpha.now a.t.now a.a.now in
-    let top = tops_row (level_at FIRST) a.key lent a.positions.now a.v.now in
+    let lent = slices_of a.lent.now in
+    let rows = prove_rows (level_at FIRST) a.lent.now.key lent a.positions.now a.u.now a.v.now a.r.now a.s.now a.alpha.now a.t.now a.a.now in
+    let top = tops_row (level_at FIRST) a.lent.now.key lent a.positions.now a.v.now in
     let r : c.from_residual.result ≡ Err c.in_err-refused.field-0.0 = search rules in
     let e = after-refused rows top (r ∙ sym c.in_err-refused.was ∙ c.refused.ensures) r in
     record {
-      outcome = when_refused (rows ++ top) (prove_result (level_at FIRST) a.key lent a.positions.now a.u.now a.v.now a.r.now a.s.now a.alpha.now) (a.t.now, a.a.now) e r;
-      leans = fifteen a.key lent a.positions.now a.u.now a.v.now a.r.now a.s.now a.alpha.now a.t.now a.a.now e;
-      solved = solved FIRST a.key lent a.positions.now a.u.now a.v.now a.r.now a.s.now a.alpha.now a.t.now a.a.now e;
+      outcome = when_refused (rows ++ top) (prove_result (level_at FIRST) a.lent.now.key lent a.positions.now a.u.now a.v.now a.r.now a.s.now a.alpha.now) (a.t.now, a.a.now) e r;
+      leans = fifteen a.lent.now.key lent a.positions.now a.u.now a.v.now a.r.now a.s.now a.alpha.now a.t.now a.a.now e;
+      solved = solved FIRST a.lent.now.key lent a.positions.now a.u.now a.v.now a.r.now a.s.now a.alpha.now a.t.now a.a.now e;
     }
 
 pub returns : goal.returns
 unfolding prove_outcome
 returns c =
     let a = c.args in
-    let lent = key_slices a.h.now a.x.now a.y.now in
-    let e = c.work.ensures ∙ decided-after (prove_rows (level_at FIRST) a.key lent a.positions.now a.u.now a.v.now a.r.now a.s.now a.alpha.now a.t.now a.a.now) (tops_row (level_at FIRST) a.key lent a.positions.now a.v.now) (prove_result (level_at FIRST) a.key lent a.positions.now a.u.now a.v.now a.r.now a.s.now a.alpha.now) (a.t.now, a.a.now) (sym c.refused.ensures ∙ c.in_ok-refused.was) in
+    let lent = slices_of a.lent.now in
+    let e = c.work.ensures ∙ decided-after (prove_rows (level_at FIRST) a.lent.now.key lent a.positions.now a.u.now a.v.now a.r.now a.s.now a.alpha.now a.t.now a.a.now) (tops_row (level_at FIRST) a.lent.now.key lent a.positions.now a.v.now) (prove_result (level_at FIRST) a.lent.now.key lent a.positions.now a.u.now a.v.now a.r.now a.s.now a.alpha.now) (a.t.now, a.a.now) (sym c.refused.ensures ∙ c.in_ok-refused.was) in
     let f = ap (λ (o : Answer × (List ℕ × List ℕ)). o.0) e in
     record {
       outcome = e;
-      leans = fifteen a.key lent a.positions.now a.u.now a.v.now a.r.now a.s.now a.alpha.now a.t.now a.a.now f;
-      solved = solved FIRST a.key lent a.positions.now a.u.now a.v.now a.r.now a.s.now a.alpha.now a.t.now a.a.now f;
+      leans = fifteen a.lent.now.key lent a.positions.now a.u.now a.v.now a.r.now a.s.now a.alpha.now a.t.now a.a.now f;
+      solved = solved FIRST a.lent.now.key lent a.positions.now a.u.now a.v.now a.r.now a.s.now a.alpha.now a.t.now a.a.now f;
     }

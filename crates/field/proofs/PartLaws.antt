@@ -45,6 +45,10 @@ module _ (R : Ring) (z : R.Carrier) where
       more : suc (n - suc k) ≡ n - k
       more = omega arith
 
+-- the sum of the parts from k on
+abbrev pub later : (l : Level) → (ℕ → (K l).Carrier) → ℕ → (K l).Carrier
+later l a k = combined (K l) ((embed l).map (small l 2)) (l.width - k) (λ i. a (k + i))
+
 -- a product with an element of F by its digits, at every level
 module _ (l : Level) (wide : 1 < l.width) where
   abbrev Z : (K l).Carrier

@@ -1,13 +1,13 @@
 // The fields F and K of the specification.
 #![tactic(auto)]
 
-ghost use Rattle.std.specs.Prelude.{◌≡◌, ◌+◌, ◌≤◌, ◌<◌, eqb, length};
+ghost use Rattle.std.specs.Prelude.{◌≡◌, ◌+◌, ◌*◌, ◌≤◌, ◌<◌, eqb, length};
 ghost use Rattle.lists.specs.Words.{part, put};
 ghost use Rattle.field.specs.Ring.{Ring, Hom};
 ghost use Rattle.field.specs.Binary.{bit};
 ghost use Rattle.field.specs.Level.{level_at, first, second, F, K, embed, Y};
 ghost use Rattle.field.specs.Word.{odd, small, words, within, is_zero};
-ghost use Rattle.field.specs.Packed.{Holds, Multiplies};
+ghost use Rattle.field.specs.Packed.{Holds, Multiplies, room};
 
 pub mod combination;
 mod packed;
@@ -54,11 +54,10 @@ impl Level {
     pub fn of(number: usize) -> Level
         ensures { result ≡ level_at number }
     {
-        let mut i: usize = 0;
-        if number == SECOND {
-            i = 1;
+        match number {
+            SECOND => LEVELS[1],
+            _ => LEVELS[0],
         }
-        LEVELS[i]
     }
 }
 
@@ -167,31 +166,21 @@ impl Element {
         ensures { (x y : (K (level_at level)).Carrier) → Holds (level_at level) self.words x → Holds (level_at level) other.words y → Holds (level_at level) result.words ((K (level_at level)).mul x y) }
     {
         if level == SECOND {
-            return Element::second_product(self, other);
+            return self.product::<TABLE>(other, SECOND);
         }
-        Element::first_product(self, other)
+        self.product::<NARROW>(other, FIRST)
     }
 
-    // The product at each level, with a table no longer than it needs.
-    fn first_product(a: Element, b: Element) -> Element
-        ensures { (x y : (K first).Carrier) → Holds first a.words x → Holds first b.words y → Holds first result.words ((K first).mul x y) }
+    // The product, with a table of as many words as the level needs.
+    fn product<const ROOM: usize>(self, other: Element, level: usize) -> Element
+        requires { (room (level_at level) * (level_at level).width ≤ ROOM) × (ROOM ≤ 72) }
+        ensures { (x y : (K (level_at level)).Carrier) → Holds (level_at level) self.words x → Holds (level_at level) other.words y → Holds (level_at level) result.words ((K (level_at level)).mul x y) }
     {
-        let factor = a.words;
-        let other = b.words;
-        let mut table = [0u64; NARROW];
-        packed::multiples(&mut table, &factor, FIRST);
-        let words = packed::product(&table, &other, FIRST);
-        Element { words }
-    }
-
-    fn second_product(a: Element, b: Element) -> Element
-        ensures { (x y : (K second).Carrier) → Holds second a.words x → Holds second b.words y → Holds second result.words ((K second).mul x y) }
-    {
-        let factor = a.words;
-        let other = b.words;
-        let mut table = [0u64; TABLE];
-        packed::multiples(&mut table, &factor, SECOND);
-        let words = packed::product(&table, &other, SECOND);
+        let a = self.words;
+        let b = other.words;
+        let mut table = [0u64; ROOM];
+        packed::multiples(&mut table, &a, level);
+        let words = packed::product(&table, &b, level);
         Element { words }
     }
 
@@ -274,10 +263,8 @@ pub fn excess(s: &[u16], level: usize) -> u16
     ensures { eqb result 0 ≡ within (level_at level) s.now }
 {
     let mut any: u16 = 0;
-    let mut i: usize = 0;
-    while i < s.len() {
-        any = any | s[i];
-        i += 1;
+    for &x in s {
+        any |= x;
     }
     let l = Level::of(level);
     any >> l.width

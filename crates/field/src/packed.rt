@@ -190,9 +190,7 @@ pub fn product(table: &[u64], other: &[u64], level: usize) -> [u64; WORDS]
 {
     let l = Level::of(level);
     let mut z = [0u64; WORDS];
-    let mut i = l.coordinates;
-    while 0 < i {
-        i -= 1;
+    for i in (0..l.coordinates).rev() {
         times_y(&mut z, level);
         let mut multiple = [0u64; WORDS];
         scaled(&mut multiple, table, coordinate(other, i), level);
@@ -246,9 +244,7 @@ pub fn total(sum: &mut [u64], parts: &[u64], level: usize)
 {
     let l = Level::of(level);
     let w = room(level);
-    let mut k = l.width;
-    while 0 < k {
-        k -= 1;
+    for k in (0..l.width).rev() {
         next(sum, parts, w * k, level);
     }
 }

@@ -5,19 +5,6 @@ use Prim.Native.Nat.{ℕ, zero, suc, ◌+◌, ◌<◌, ◌≤◌}
 use native.Mathlib.Omega.{arith}
 use lib.Dec.{eqb, ltb}
 use borrow.Author.Tests.{ltb-true, ltb-false, eqb-true, eqb-false, ne_eqb}
-use denote.Param.Members.{Mut}
-use denote.Ref.{Bor}
-use mathlib.Core.List.{List}
-use Rattle.std.specs.Bool.{⊤}
-use Rattle.std.specs.Fn.{CalledAt}
-use Rattle.std.specs.Iterator.{YieldsThen}
-use Rattle.std.specs.List.{FoldsTo}
-use Rattle.std.specs.Option.{MatchOption}
-use Rattle.std.specs.declared.option.Option.{Option}
-use Rattle.std.specs.declared.option.Option.TheVariants.{None, Some}
-use Rattle.std.specs.declared.ops.Range.{Range}
-use Rattle.std.proofs.iter.Yields.{nat_range_steps}
-use Rattle.std.proofs.lemmas.Iterator.{first_from_Range}
 use Rattle.lists.specs.Count.{count}
 use Rattle.elimination.specs.Elimination.{lowest}
 
@@ -56,16 +43,6 @@ first_unique m test r f = go (ltb r q) (ltb q r) refl refl
 
 pub first_cong : (m : ℕ) (t u : ℕ → Bool) (r : ℕ) → ((i : ℕ) → i < m → t i ≡ u i) → First m t r → First m u r
 first_cong m t u r h f = record { within = f.within; passes = λ l. sym (h r l) ∙ f.passes l; before = λ i l. sym (h i (omega (arith, f.within))) ∙ f.before i l }
-
--- what `find` answers over 0..m
-pub first_found : {F : Type 0} {g : Mut F (Bor ℕ × Unit {0}) Bool} (m : ℕ) (test : ℕ → Bool) (u : Range ℕ) (f : F) (r : Option ℕ)
-    → (xs : List ℕ) × (j : F) × YieldsThen nat_range_steps (record { start = 0; end = m }) xs r u × FoldsTo (λ p x q. CalledAt g p x false q) f xs j × MatchOption r ⊤ (λ x. (h : F) × CalledAt g j x true h)
-    → ((x : ℕ) (b : Bool) (q : F) → CalledAt g f x b q → (q ≡ f) × (b ≡ test x)) → MatchOption r (First m test m) (λ p. (p < m) × First m test p)
-first_found m test u f r d k = by r (first_from_Range (record { start = 0; end = m }) u f r (λ i. true ≡ test i) (λ i. false ≡ test i) d (λ x q h. (k x true q h).1) (λ x q h. k x false q h))
-  where
-    by : (o : Option ℕ) → MatchOption o ((i : ℕ) → 0 ≤ i → i < m → false ≡ test i) (λ p. (0 ≤ p) × (p < m) × (true ≡ test p) × ((i : ℕ) → 0 ≤ i → i < p → false ≡ test i)) → MatchOption o (First m test m) (λ p. (p < m) × First m test p)
-    by None h = record { within = omega arith; passes = λ b. absurd (omega arith); before = λ i b. sym (h i (omega arith) b) }
-    by (Some p) h = (h.1, record { within = omega (arith, h.1); passes = λ b. sym h.2; before = λ i b. sym (h.3 i (omega arith) b) })
 
 -- fewer than n pass: one does not
 pub count-short : (n : ℕ) (test : ℕ → Bool) → count n test < n → (i : ℕ) × (i < n) × (test i ≡ false)

@@ -9,7 +9,7 @@ use lib.Bits.{bit_xor}
 use lib.Dec.{eqb, leb, ltb}
 use lib.ListN.{length, get_or, set}
 use lib.Seq.{get_or-set_same, get_or-set_other}
-use borrow.Author.Tests.{lt-ltb, le-ltb, eq-eqb, eqb-true, eqb-false, leb-false}
+use borrow.Author.Tests.{lt-ltb, le-ltb, eq-eqb, ne_eqb, eqb-true, eqb-false, leb-false}
 use Rattle.lists.specs.Count.{count}
 use Rattle.field.specs.RingLaws.{mul-zero, zero-mul}
 use Rattle.field.specs.declared.Level.{Level}
@@ -112,3 +112,18 @@ module _ (l : Level) (n m : ℕ) (h₀ : List ℕ) where
             words : (i j : ℕ) → i < m → j < n → cleared_word l n c (word l (inverse l (small l (entry_at n h p c)))) (entry_at n h p) h (ltb p i && unused used i) i j
                 ≡ cond ((ltb p i && not (s.used i)) && leb c j) (bit_xor (word l (s.entry i j)) (times_word l (times_word l (word l (s.entry i c)) (word l (inverse l (small l (word l (s.entry p c)))))) (word l (s.entry p j)))) (word l (s.entry i j))
             words i j a q = λ t. cond ((ltb p i && M.marks i t) && leb c j) (bit_xor (M.grid.at i j a q t) (times_word l (times_word l (M.grid.at i c a col t) (word l (inverse l (small l (M.grid.at p c b col t))))) (M.grid.at p j b q t))) (M.grid.at i j a q t)
+
+-- what the search sees
+module _ (n : ℕ) (h used : List ℕ) (c i : ℕ) where
+  pub fails_zero : entry_at n h i c ≡ 0 → fits n h used c i ≡ false
+  fails_zero e = ap (λ x. unused used i && not (eqb x 0)) e ∙ by (unused used i)
+    where
+      by : (b : Bool) → (b && false) ≡ false
+      by true = refl
+      by false = refl
+
+  pub fails_used : (get_or used i 0 ≡ 0 → ⊥) → fits n h used c i ≡ false
+  fails_used u = ap (λ b. b && not (eqb (entry_at n h i c) 0)) (ne_eqb (get_or used i 0) 0 u)
+
+  pub fits-found : get_or used i 0 ≡ 0 → (entry_at n h i c ≡ 0 → ⊥) → fits n h used c i ≡ true
+  fits-found u z = ap₂ (λ x y. x && not y) (eq-eqb (get_or used i 0) 0 u) (ne_eqb (entry_at n h i c) 0 z)

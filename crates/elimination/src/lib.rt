@@ -123,9 +123,19 @@ pub fn eliminate(matrix: &mut [u16], n: usize, m: usize, level: usize) -> usize
 {
     let mut used = [0u8; MOST];
     let mut rank: usize = 0;
-    for c in 0..n {
-        let Some(p) = (0..m).find(|&r| used[r] == 0 && matrix[r * n + c] != 0) else {
-            continue;
+    'columns: for c in 0..n {
+        let mut r: usize = 0;
+        // The form that docs/DECISIONS.md names: a loop that yields the row by its break.
+        let p = loop {
+            if r == m {
+                continue 'columns;
+            }
+            if used[r] == 0 {
+                if matrix[r * n + c] != 0 {
+                    break r;
+                }
+            }
+            r += 1;
         };
         clear_below(matrix, &used, p, n, m, c, level);
         used[p] = 1;

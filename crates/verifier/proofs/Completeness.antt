@@ -6,9 +6,8 @@ use Prim.Native.Nat.{ℕ}
 use native.Mathlib.Nat.{mul_comm}
 use Rattle.lists.specs.Lent.{long}
 use Rattle.lists.proofs.Lent.{Long, each_long, long-each}
-use Rattle.refusal.specs.Answer.{first_of}
+use Rattle.refusal.specs.Answer.{first_of, Done}
 use Rattle.refusal.specs.Verdict.{judged}
-use Rattle.refusal.specs.declared.Answer.TheVariants.{Done}
 use Rattle.refusal.proofs.Answers.{result_of}
 use Rattle.field.specs.declared.Level.{Level}
 use Rattle.field.specs.Level.{level_at, K}

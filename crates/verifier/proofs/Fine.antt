@@ -6,8 +6,7 @@ use native.Mathlib.Omega.{arith}
 use lib.ListN.{length}
 use Rattle.lists.specs.Lent.{long}
 use Rattle.lists.proofs.Lent.{each_long}
-use Rattle.refusal.specs.Answer.{first_of}
-use Rattle.refusal.specs.declared.Answer.TheVariants.{Done}
+use Rattle.refusal.specs.Answer.{first_of, Done}
 use Rattle.field.specs.declared.Level.{Level}
 use Rattle.field.specs.Level.{level_at}
 use Rattle.field.proofs.Fields.{bounded}

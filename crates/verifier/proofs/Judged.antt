@@ -1,4 +1,7 @@
 -- What a verdict says: the law that the entry's outcome judges the verifier's equation.
+use Rattle.std.specs.Prelude.{Result, Ok, Err}
+use Rattle.refusal.specs.declared.Refusal.{Refusal}
+use Rattle.refusal.specs.declared.Refusal.TheVariants.{DependentRows}
 use mathlib.Core.Path.{◌≡◌, refl, sym, ◌∙◌, ap, ap₂}
 use mathlib.Core.Bool.{Bool, true, false, false≢true}
 use mathlib.Core.Logic.{◌↔◌}
@@ -6,10 +9,8 @@ use mathlib.Core.List.{List, [], ◌∷◌}
 use Prim.Native.Nat.{ℕ}
 use native.Mathlib.Omega.{arith}
 use Rattle.lists.specs.Lent.{long}
-use Rattle.refusal.specs.Answer.{refusal, first_of}
-use Rattle.refusal.specs.Verdict.{verdict_number, turned, judged}
-use Rattle.refusal.specs.declared.Answer.{Answer}
-use Rattle.refusal.specs.declared.Answer.TheVariants.{Done, Refused}
+use Rattle.refusal.specs.Answer.{first_of, Answer, Done}
+use Rattle.refusal.specs.Verdict.{judged}
 use Rattle.refusal.specs.declared.Verdict.{Verdict}
 use Rattle.refusal.specs.declared.Verdict.TheVariants.{Accepted, Rejected}
 use Rattle.field.specs.declared.Level.{Level}
@@ -24,29 +25,28 @@ use Rattle.checkzero.proofs.Written.{accepts-true}
 use Rattle.verifier.specs.Entry.{verify_lent, verify_rows, verify_outcome, verify_leans, Judges}
 
 -- a verdict tells the answer and the test
-accepted-only : (a : Answer) (b : Bool) → judged a b ≡ Accepted → (a ≡ Done) × (b ≡ true)
-accepted-only Done true e = (refl, refl)
-accepted-only Done false e = let z : ◌≡◌ {A = ℕ} 0 1 = cc in absurd (omega arith)
-accepted-only (Refused r) b e = let z : ◌≡◌ {A = ℕ} 0 1 = cc in absurd (omega arith)
+accepted-only : (a : Answer) (b : Bool) → judged a b ≡ Ok Accepted → (a ≡ Done) × (b ≡ true)
+accepted-only (Ok _) true e = (refl, refl)
+accepted-only (Ok _) false e = let z : ◌≡◌ {A = ℕ} 0 1 = cc in absurd (omega arith)
+accepted-only (Err r) b e = let z : ◌≡◌ {A = ℕ} 0 1 = cc in absurd (omega arith)
 
-rejected-only : (a : Answer) (b : Bool) → judged a b ≡ Rejected → (a ≡ Done) × (b ≡ false)
-rejected-only Done true e = let z : ◌≡◌ {A = ℕ} 0 1 = cc in absurd (omega arith)
-rejected-only Done false e = (refl, refl)
-rejected-only (Refused r) b e = let z : ◌≡◌ {A = ℕ} 0 1 = cc in absurd (omega arith)
+rejected-only : (a : Answer) (b : Bool) → judged a b ≡ Ok Rejected → (a ≡ Done) × (b ≡ false)
+rejected-only (Ok _) true e = let z : ◌≡◌ {A = ℕ} 0 1 = cc in absurd (omega arith)
+rejected-only (Ok _) false e = (refl, refl)
+rejected-only (Err r) b e = let z : ◌≡◌ {A = ℕ} 0 1 = cc in absurd (omega arith)
 
 -- a test that is not true
 not-true : (b : Bool) → (b ≡ true → ⊥) → b ≡ false
 not-true true h = absurd (h refl)
 not-true false h = refl
 
--- a refusal of the verdict is the answer's
-turned-only : (a : Answer) (b : Bool) (k : ℕ) → judged a b ≡ turned k → a ≡ refusal k
-turned-only Done true k e = let z : ◌≡◌ {A = ℕ} 0 1 = cc in absurd (omega arith)
-turned-only Done false k e = let z : ◌≡◌ {A = ℕ} 0 1 = cc in absurd (omega arith)
-turned-only (Refused r) b k e = ap refusal (ap number e)
+-- a refusal of verify is the answer's
+refused-only : (a : Answer) (b : Bool) (k : Refusal) → judged a b ≡ Err k → a ≡ Err k
+refused-only (Ok _) b k e = let z : ◌≡◌ {A = ℕ} 0 1 = cc in absurd (omega arith)
+refused-only (Err r) b k e = ap (λ (k : Refusal). Err k) (same e)
   where
-    number : Verdict → ℕ
-    number = verdict_number
+    same : {r k : Refusal} → ◌≡◌ {A = Result Verdict Refusal} (Err r) (Err k) → r ≡ k
+    same e = cc
 
 module _ (number : ℕ) (key : Key) (lent : KeySlices) (t q Δ masks α a : List ℕ) where
   abbrev l : Level
@@ -61,7 +61,7 @@ module _ (number : ℕ) (key : Key) (lent : KeySlices) (t q Δ masks α a : List
   test : (holds ≡ true) ↔ AcceptsSlices l (system l key lent) t q Δ masks α a
   test = accepts-true l (system l key lent) t q Δ masks α a
 
-  judges : {verdict : Verdict} → verdict ≡ judged answer holds → Judges l key lent t q Δ masks α a (verdict ≡ Accepted) (verdict ≡ Rejected)
+  judges : {verdict : Result Verdict Refusal} → verdict ≡ judged answer holds → Judges l key lent t q Δ masks α a (verdict ≡ Ok Accepted) (verdict ≡ Ok Rejected)
   judges e = record {
     accepted = (
       λ v. let f = accepted-only answer holds (sym e ∙ v) in (f.0, test.0 f.1),
@@ -73,13 +73,13 @@ module _ (number : ℕ) (key : Key) (lent : KeySlices) (t q Δ masks α a : List
     );
   }
 
-  leaning : {verdict : Verdict} → verdict ≡ judged answer holds → verify_leans l key lent t q Δ masks α a (verdict ≡ turned 15)
+  leaning : {verdict : Result Verdict Refusal} → verdict ≡ judged answer holds → verify_leans l key lent t q Δ masks α a (verdict ≡ Err DependentRows)
   leaning e =
       let known = leans number key (long (verify_lent (lengths l key) lent t q Δ masks α a)) lent (below 1 t) (withins l (q ∷ Δ ∷ masks ∷ α ∷ a ∷ [])) Column [] tt {r = answer} refl in
-      record { fifteen = (λ v. known.fifteen.0 (turned-only answer holds 15 (sym e ∙ v)), λ p. e ∙ ap (λ r. judged r holds) (known.fifteen.1 p)) }
+      record { fifteen = (λ v. known.fifteen.0 (refused-only answer holds DependentRows (sym e ∙ v)), λ p. e ∙ ap (λ r. judged r holds) (known.fifteen.1 p)) }
 
   -- what is told of the answer r and of the test y gives the outcome, which judges
-  pub told : {verdict : Verdict} {r o : Answer} {y b : Bool} → r ≡ answer → r ≡ o → y ≡ holds → y ≡ b → verdict ≡ judged o b → (verdict ≡ verify_outcome (level_at number) key lent t q Δ masks α a) × (verify_leans (level_at number) key lent t q Δ masks α a (verdict ≡ turned 15) × Judges (level_at number) key lent t q Δ masks α a (verdict ≡ Accepted) (verdict ≡ Rejected))
+  pub told : {verdict : Result Verdict Refusal} {r o : Answer} {y b : Bool} → r ≡ answer → r ≡ o → y ≡ holds → y ≡ b → verdict ≡ judged o b → (verdict ≡ verify_outcome (level_at number) key lent t q Δ masks α a) × (verify_leans (level_at number) key lent t q Δ masks α a (verdict ≡ Err DependentRows) × Judges (level_at number) key lent t q Δ masks α a (verdict ≡ Ok Accepted) (verdict ≡ Ok Rejected))
   unfolding verify_outcome
   told {verdict} e p f q v = (is, (leaning is, judges is))
     where

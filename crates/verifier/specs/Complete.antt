@@ -1,7 +1,6 @@
 -- Completeness: what prove writes for a solving order is accepted by an honest verifier.
-use Rattle.std.specs.Prelude.{◌≡◌, true, List, [], ◌∷◌, length, ℕ}
-use Rattle.refusal.specs.Answer.{first_of}
-use Rattle.refusal.specs.declared.Answer.TheVariants.{Done}
+use Rattle.std.specs.Prelude.{◌≡◌, Ok, true, List, [], ◌∷◌, length, ℕ}
+use Rattle.refusal.specs.Answer.{first_of, Done}
 use Rattle.refusal.specs.declared.Verdict.TheVariants.{Accepted}
 use Rattle.field.specs.declared.Level.{Level}
 use Rattle.key.specs.declared.Key.{Key}
@@ -26,7 +25,7 @@ pub record HonestVerifier (l : Level) (key : Key) (lent : KeySlices) (u v r s q 
 -- what prove leaves in t and a, handed to verify with the same key and weights
 pub record Complete (l : Level) (key : Key) (lent : KeySlices) (positions u v r s α t a q Δ masks : List ℕ) : Type 0 where
   pub done : (prove_outcome l key lent positions u v r s α t a).0 ≡ Done
-  pub accepted : verify_outcome l key lent (prove_outcome l key lent positions u v r s α t a).1.0 q Δ masks α (prove_outcome l key lent positions u v r s α t a).1.1 ≡ Accepted
+  pub accepted : verify_outcome l key lent (prove_outcome l key lent positions u v r s α t a).1.0 q Δ masks α (prove_outcome l key lent positions u v r s α t a).1.1 ≡ Ok Accepted
 
 -- past refusals 1 to 7 and 15, so of a well-formed key, for positions that solve the key, so that none is a spare code, and an honest verifier
 abbrev pub Completeness : Level → Type 0

@@ -1,9 +1,9 @@
 -- What the entry verify answers.
-use Rattle.std.specs.Prelude.{◌≡◌, ◌↔◌, Bool, List, [], ◌∷◌, ◌++◌, ℕ}
+use Rattle.refusal.specs.declared.Refusal.{Refusal}
+use Rattle.std.specs.Prelude.{◌≡◌, ◌↔◌, Result, Bool, List, [], ◌∷◌, ◌++◌, ℕ}
 use Rattle.lists.specs.Lent.{long}
-use Rattle.refusal.specs.Answer.{first_of}
+use Rattle.refusal.specs.Answer.{first_of, Done}
 use Rattle.refusal.specs.Verdict.{judged}
-use Rattle.refusal.specs.declared.Answer.TheVariants.{Done}
 use Rattle.refusal.specs.declared.Verdict.{Verdict}
 use Rattle.field.specs.declared.Level.{Level}
 use Rattle.key.specs.declared.Key.{Key}
@@ -27,14 +27,14 @@ verify_lent len lent t q Δ masks α a =
 
 module _ (l : Level) (key : Key) where
   -- its refusals, in order
-  abbrev pub verify_rows : KeySlices → (t q Δ masks α a : List ℕ) → List (Bool × ℕ)
+  abbrev pub verify_rows : KeySlices → (t q Δ masks α a : List ℕ) → List (Bool × Refusal)
   verify_rows lent t q Δ masks α a = sizes l key ++ checks l key (long (verify_lent (lengths l key) lent t q Δ masks α a)) lent (below 1 t) (withins l (q ∷ Δ ∷ masks ∷ α ∷ a ∷ [])) Column
 
   -- past 1 to 4, 15 is the answer exactly when the rows of H lean on each other
   abbrev pub verify_leans : KeySlices → (t q Δ masks α a : List ℕ) → (IsFifteen : Type 0) → Type 0
   verify_leans lent t q Δ masks α a = Leans l key (long (verify_lent (lengths l key) lent t q Δ masks α a)) lent
 
-  unfoldable pub verify_outcome : KeySlices → (t q Δ masks α a : List ℕ) → Verdict
+  unfoldable pub verify_outcome : KeySlices → (t q Δ masks α a : List ℕ) → Result Verdict Refusal
   verify_outcome lent t q Δ masks α a = judged (first_of (verify_rows lent t q Δ masks α a)) (accepts l (system l key lent) t q Δ masks α a)
 
   -- where no refusal applies: "The verifier accepts exactly when a at Δ equals" the verifier's side. Each function says how its answer tells

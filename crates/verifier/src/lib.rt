@@ -1,11 +1,10 @@
 // The entry verify: the specification, 'CheckZero', the verifier's side.
 #![tactic(auto)]
 
-ghost use Rattle.std.specs.Prelude.{◌≡◌, eqb, length};
+ghost use Rattle.refusal.specs.declared.Refusal.TheVariants.{DependentRows};
+ghost use Rattle.std.specs.Prelude.{◌≡◌, eqb, length, Ok, Err};
 ghost use Rattle.lists.specs.Lent.{long};
-ghost use Rattle.refusal.specs.Answer.{first_of};
-ghost use Rattle.refusal.specs.Verdict.{turned};
-ghost use Rattle.refusal.specs.declared.Answer.TheVariants.{Done};
+ghost use Rattle.refusal.specs.Answer.{first_of, Done};
 ghost use Rattle.refusal.specs.declared.Verdict.TheVariants.{Accepted, Rejected};
 ghost use Rattle.field.specs.Level.{FIRST, level_at};
 ghost use Rattle.key.specs.Key.{Sized, key_slices, lengths};
@@ -22,7 +21,7 @@ use row::elements;
 // Words of work space: an element for each of 2^d columns, at the widest level.
 const COLUMNS: usize = 768;
 
-// Zero exactly when each slice has its length.
+// Whether each slice has its length.
 fn lengths(
     key: Key,
     h: &[u16],
@@ -34,18 +33,23 @@ fn lengths(
     masks: &[u16],
     alpha: &[u16],
     a: &[u16],
-) -> usize
+) -> bool
     requires { Sized (level_at FIRST) key }
-    ensures { eqb result 0 ≡ long (verify_lent (lengths (level_at FIRST) key) (key_slices h.now x.now y.now) t.now q.now delta.now masks.now alpha.now a.now) }
+    ensures { result ≡ long (verify_lent (lengths (level_at FIRST) key) (key_slices h.now x.now y.now) t.now q.now delta.now masks.now alpha.now a.now) }
 {
     let len = key.lengths(FIRST);
-    let sums = (masks.len() ^ len.masks) | ((alpha.len() ^ len.values) | (a.len() ^ len.proof));
-    let material = (t.len() ^ len.bits)
-        | ((q.len() ^ len.elements) | ((delta.len() ^ len.one) | sums));
-    (h.len() ^ len.matrix) | ((x.len() ^ len.vector) | ((y.len() ^ len.target) | material))
+    h.len() == len.matrix
+        && x.len() == len.vector
+        && y.len() == len.target
+        && t.len() == len.bits
+        && q.len() == len.elements
+        && delta.len() == len.one
+        && masks.len() == len.masks
+        && alpha.len() == len.values
+        && a.len() == len.proof
 }
 
-// The first refusal that applies, or Done.
+// The first refusal that applies; Ok where none does.
 fn refused(
     key: Key,
     h: &[u16],
@@ -60,18 +64,11 @@ fn refused(
 ) -> Answer
     ensures { result ≡ first_of (verify_rows (level_at FIRST) key (key_slices h.now x.now y.now) t.now q.now delta.now masks.now alpha.now a.now) }
 {
-    let sizes = key.sizes(FIRST);
-    if let Answer::Refused(_) = sizes {
-        return sizes;
+    key.sizes(FIRST)?;
+    if !lengths(key, h, x, y, t, q, delta, masks, alpha, a) {
+        return Err(Refusal::SliceLength);
     }
-    let slices = lengths(key, h, x, y, t, q, delta, masks, alpha, a);
-    if slices != 0 {
-        return Answer::Refused(Refusal::SLICE_LENGTH);
-    }
-    let contents = key.contents(h, x, y, FIRST);
-    if let Answer::Refused(_) = contents {
-        return contents;
-    }
+    key.contents(h, x, y, FIRST)?;
     let coordinates = field::excess(q, FIRST)
         | (field::excess(delta, FIRST)
             | (field::excess(masks, FIRST)
@@ -163,19 +160,15 @@ pub fn verify(
     masks: &[u16],
     alpha: &[u16],
     a: &[u16],
-) -> Verdict
+) -> Result<Verdict, Refusal>
     ensures outcome { result ≡ verify_outcome (level_at FIRST) key (key_slices h.now x.now y.now) t.now q.now delta.now masks.now alpha.now a.now }
-    ensures leans { verify_leans (level_at FIRST) key (key_slices h.now x.now y.now) t.now q.now delta.now masks.now alpha.now a.now (result ≡ turned 15) }
-    ensures judges { Judges (level_at FIRST) key (key_slices h.now x.now y.now) t.now q.now delta.now masks.now alpha.now a.now (result ≡ Accepted) (result ≡ Rejected) }
+    ensures leans { verify_leans (level_at FIRST) key (key_slices h.now x.now y.now) t.now q.now delta.now masks.now alpha.now a.now (result ≡ Err DependentRows) }
+    ensures judges { Judges (level_at FIRST) key (key_slices h.now x.now y.now) t.now q.now delta.now masks.now alpha.now a.now (result ≡ Ok Accepted) (result ≡ Ok Rejected) }
 {
-    match refused(key, h, x, y, t, q, delta, masks, alpha, a) {
-        Answer::Done => {
-            if work(key, h, x, y, t, q, delta, masks, alpha, a) == 0 {
-                Verdict::Accepted
-            } else {
-                Verdict::Rejected
-            }
-        }
-        Answer::Refused(refusal) => Verdict::Refused(refusal),
+    refused(key, h, x, y, t, q, delta, masks, alpha, a)?;
+    if work(key, h, x, y, t, q, delta, masks, alpha, a) == 0 {
+        Ok(Verdict::Accepted)
+    } else {
+        Ok(Verdict::Rejected)
     }
 }

@@ -1,4 +1,5 @@
 -- The writer undoes the reader.
+use Rattle.refusal.specs.declared.Refusal.TheVariants.{ShortOutput}
 use mathlib.Core.Path.{◌≡◌, refl, sym, ap, ◌∙◌}
 use mathlib.Core.List.{[], ◌∷◌, ◌++◌}
 use Prim.Native.Nat.{◌≤◌}
@@ -7,8 +8,7 @@ use borrow.Author.Tests.{le-ltb}
 use lib.ListN.{length, drop}
 use Rattle.lists.specs.Lent.{long}
 use Rattle.lists.proofs.Lent.{Long, long-each}
-use Rattle.refusal.specs.Answer.{first_of, written as kept, room_row}
-use Rattle.refusal.specs.declared.Answer.TheVariants.{Done}
+use Rattle.refusal.specs.Answer.{first_of, written as kept, room_row, Done}
 use Rattle.refusal.proofs.Answers.{after-done}
 use Rattle.field.specs.Level.{FIRST, level_at}
 use Rattle.key.specs.declared.Code.TheVariants.{Column}
@@ -17,7 +17,7 @@ use Rattle.key.proofs.Checked.{checked-done}
 use Rattle.package.specs.Written.{KeyData, Group, package_form, written}
 use Rattle.package.proofs.Opening.{valid-stands}
 use Rattle.package.proofs.Said.{package_data, package_said}
-use Rattle.writer.specs.declared.Written.TheVariants.{Length}
+use Rattle.std.specs.Prelude.{Ok}
 use Rattle.writer.specs.Entry.{length_as, write_lent, write_checks, write_rows, write_outcome}
 use Rattle.writer.specs.Laws.{WritesBack}
 
@@ -47,5 +47,5 @@ writes_back s b e out h =
     let bytes = written (package_form l) (k, g) in
     let room : length bytes ≤ length out = omega (arith, ap length w.1) in
     let done : first_of (write_rows l k.sizes k.slices g.serial g.t g.a (length out)) ≡ Done
-    = after-done (write_checks l k.sizes k.slices g.t g.a) (room_row (length bytes) (length out)) (checks-done k g w.0) ∙ (λ i. first_of ((le-ltb (length out) (length bytes) room i, 13) ∷ [])) in
-    ap (λ r. (length_as r (length bytes), kept r (bytes ++ drop (length bytes) out) out)) done ∙ ap (λ u. (Length (length u), u ++ drop (length u) out)) (sym w.1)
+    = after-done (write_checks l k.sizes k.slices g.t g.a) (room_row (length bytes) (length out)) (checks-done k g w.0) ∙ (λ i. first_of ((le-ltb (length out) (length bytes) room i, ShortOutput) ∷ [])) in
+    ap (λ r. (length_as r (length bytes), kept r (bytes ++ drop (length bytes) out) out)) done ∙ ap (λ u. (Ok (length u), u ++ drop (length u) out)) (sym w.1)

@@ -1,4 +1,5 @@
 -- What holds where the writer refuses nothing, and what its answer tells.
+use Rattle.refusal.specs.declared.Refusal.TheVariants.{ShortOutput, DependentRows}
 use mathlib.Core.Path.{◌≡◌, refl, sym, ap, ap₂, ◌∙◌}
 use mathlib.Core.Bool.{Bool, true, and-eq-true_iff}
 use mathlib.Core.List.{List, [], ◌∷◌, ◌++◌}
@@ -11,10 +12,8 @@ use lib.Seq.{take_at}
 use Rattle.lists.specs.Lent.{long}
 use Rattle.lists.proofs.Lent.{each_long}
 use Rattle.copying.proofs.Filled.{Stands, first-stands}
-use Rattle.refusal.specs.Answer.{refusal, first_of, written as kept, room_row}
-use Rattle.refusal.specs.declared.Answer.{Answer}
+use Rattle.refusal.specs.Answer.{first_of, written as kept, room_row, number as paper_number, Answer, Done}
 use Rattle.refusal.specs.declared.Refusal.{Refusal}
-use Rattle.refusal.specs.declared.Answer.TheVariants as answer
 use Rattle.refusal.proofs.Answers.{none, after-done}
 use Rattle.field.specs.declared.Level.{Level}
 use Rattle.field.specs.Level.{FIRST, level_at}
@@ -30,8 +29,7 @@ use Rattle.layout.proofs.Bounds.{bounds}
 use Rattle.package.specs.Reading.{package_reader, reading}
 use Rattle.package.specs.Written.{package_form, handed}
 use Rattle.package.proofs.Forms.{package_faithful}
-use Rattle.writer.specs.declared.Written.{Written}
-use Rattle.writer.specs.declared.Written.TheVariants.{Length, Refused}
+use Rattle.std.specs.Prelude.{Result, Ok, Err}
 use Rattle.writer.specs.Entry.{length_as, data_of, write_lent, package_bytes, write_checks, write_rows, write_leans, write_outcome}
 use Rattle.writer.specs.Laws.{ReadBack}
 
@@ -40,7 +38,7 @@ module _ (key : Key) (lent : KeySlices) (t a : List ℕ) where
   l = level_at FIRST
 
   -- what holds where the checks find nothing
-  pub fine : first_of (write_checks (level_at FIRST) key lent t a) ≡ answer.Done → Checked (level_at FIRST) key (long (write_lent (lengths (level_at FIRST) key) lent t a)) lent (below 1 t) (withins (level_at FIRST) (a ∷ [])) Column
+  pub fine : first_of (write_checks (level_at FIRST) key lent t a) ≡ Done → Checked (level_at FIRST) key (long (write_lent (lengths (level_at FIRST) key) lent t a)) lent (below 1 t) (withins (level_at FIRST) (a ∷ [])) Column
   fine e = checked l key (long (write_lent (lengths l key) lent t a)) lent (below 1 t) (withins l (a ∷ [])) Column e
 
   -- two bytes can state the length of each field
@@ -53,7 +51,7 @@ module _ (key : Key) (lent : KeySlices) (t a : List ℕ) where
     pub t-bytes : length t < 65536
     pub a-words : 2 * length a < 65536
 
-  pub stated : first_of (write_checks (level_at FIRST) key lent t a) ≡ answer.Done → Short
+  pub stated : first_of (write_checks (level_at FIRST) key lent t a) ≡ Done → Short
   stated e =
       let f = fine e in
       let b = bounds key f.is-sized in
@@ -69,7 +67,7 @@ module _ (key : Key) (lent : KeySlices) (t a : List ℕ) where
       }
 
   -- what is lent is within the limits of a package
-  pub valid : (serial : ℕ) → serial < 4294967296 → first_of (write_checks (level_at FIRST) key lent t a) ≡ answer.Done → (package_form (level_at FIRST)).Limits (data_of key lent serial t a)
+  pub valid : (serial : ℕ) → serial < 4294967296 → first_of (write_checks (level_at FIRST) key lent t a) ≡ Done → (package_form (level_at FIRST)).Limits (data_of key lent serial t a)
   valid serial small e =
       let f = fine e in
       let s = each_long (write_lent (lengths l key) lent t a) f.slices-fine in
@@ -96,20 +94,20 @@ module _ (key : Key) (lent : KeySlices) (t a : List ℕ) where
     bytes = package_bytes (level_at FIRST) key lent serial t a
 
     -- nothing is refused: neither what is lent nor the room
-    pub passed : (room : ℕ) → first_of (write_rows (level_at FIRST) key lent serial t a room) ≡ answer.Done → (first_of (write_checks (level_at FIRST) key lent t a) ≡ answer.Done) × (length bytes ≤ room)
+    pub passed : (room : ℕ) → first_of (write_rows (level_at FIRST) key lent serial t a room) ≡ Done → (first_of (write_checks (level_at FIRST) key lent t a) ≡ Done) × (length bytes ≤ room)
     passed room e =
         let f = none-append (write_checks l key lent t a) (room_row (length bytes) room) (none (write_rows l key lent serial t a room) e) in
         (none_done (write_checks l key lent t a) f.0, ltb-false room (length bytes) f.1.0)
 
     -- past the checks the room decides, where n bytes are needed
-    module _ (room n : ℕ) (d : first_of (write_checks (level_at FIRST) key lent t a) ≡ answer.Done) (e : n ≡ length (package_bytes (level_at FIRST) key lent serial t a)) where
-      by_room : {b : Bool} → ltb room n ≡ b → first_of (write_rows (level_at FIRST) key lent serial t a room) ≡ first_of ((b, 13) ∷ [])
-      by_room f = after-done (write_checks l key lent t a) (room_row (length bytes) room) d ∙ ap (λ k. first_of ((ltb room k, 13) ∷ [])) (sym e) ∙ ap (λ b. first_of ((b, 13) ∷ [])) f
+    module _ (room n : ℕ) (d : first_of (write_checks (level_at FIRST) key lent t a) ≡ Done) (e : n ≡ length (package_bytes (level_at FIRST) key lent serial t a)) where
+      by_room : {b : Bool} → ltb room n ≡ b → first_of (write_rows (level_at FIRST) key lent serial t a room) ≡ first_of ((b, ShortOutput) ∷ [])
+      by_room f = after-done (write_checks l key lent t a) (room_row (length bytes) room) d ∙ ap (λ k. first_of ((ltb room k, ShortOutput) ∷ [])) (sym e) ∙ ap (λ b. first_of ((b, ShortOutput) ∷ [])) f
 
-      pub room-short : room < n → refusal 13 ≡ first_of (write_rows (level_at FIRST) key lent serial t a room)
+      pub room-short : room < n → (Err ShortOutput) ≡ first_of (write_rows (level_at FIRST) key lent serial t a room)
       room-short h = sym (by_room (lt-ltb room n h))
 
-      pub room-enough : n ≤ room → answer.Done ≡ first_of (write_rows (level_at FIRST) key lent serial t a room)
+      pub room-enough : n ≤ room → Done ≡ first_of (write_rows (level_at FIRST) key lent serial t a room)
       room-enough h = sym (by_room (le-ltb room n h))
 
     module _ (out : List ℕ) where
@@ -117,26 +115,22 @@ module _ (key : Key) (lent : KeySlices) (t a : List ℕ) where
       rows = first_of (write_rows (level_at FIRST) key lent serial t a (length out))
 
       -- an answer as the outcome has it
-      abbrev outcome : Written × List ℕ
+      abbrev outcome : Result ℕ Refusal × List ℕ
       outcome = (length_as rows (length bytes), kept rows (bytes ++ drop (length bytes) out) out)
 
       -- a refusal of the answer is that of the rows
-      refused-only : (b : Answer) (n k : ℕ) → length_as b n ≡ Refused (record { number = k }) → b ≡ refusal k
-      refused-only answer.Done n k e = let z : ◌≡◌ {A = ℕ} 0 1 = cc in absurd (omega arith)
-      refused-only (answer.Refused r) n k e = ap refusal (ap number e)
-        where
-          number : Written → ℕ
-          number (Length n) = 0
-          number (Refused r) = r.number
+      refused-only : (b : Answer) (n : ℕ) {k : Refusal} → length_as b n ≡ Err k → b ≡ Err k
+      refused-only (Ok _) n e = let z : ◌≡◌ {A = ℕ} 0 1 = cc in absurd (omega arith)
+      refused-only (Err r) n e = cc
 
-      leaning_told : {w : Written} → w ≡ length_as rows (length bytes) → write_leans (level_at FIRST) key lent t a (w ≡ Refused (record { number = 15 }))
+      leaning_told : {w : Result ℕ Refusal} → w ≡ length_as rows (length bytes) → write_leans (level_at FIRST) key lent t a (w ≡ Err DependentRows)
       leaning_told e =
-          let known = leans FIRST key (long (write_lent (lengths l key) lent t a)) lent (below 1 t) (withins l (a ∷ [])) Column (room_row (length bytes) (length out)) (λ z. omega (arith, z), tt) {r = rows} refl in
-          record { fifteen = (λ v. known.fifteen.0 (refused-only rows (length bytes) 15 (sym e ∙ v)), λ p. e ∙ ap (λ r. length_as r (length bytes)) (known.fifteen.1 p)) }
+          let known = leans FIRST key (long (write_lent (lengths l key) lent t a)) lent (below 1 t) (withins l (a ∷ [])) Column (room_row (length bytes) (length out)) (λ z. omega (arith, ap paper_number z), tt) {r = rows} refl in
+          record { fifteen = (λ v. known.fifteen.0 (refused-only rows (length bytes) (sym e ∙ v)), λ p. e ∙ ap (λ r. length_as r (length bytes)) (known.fifteen.1 p)) }
 
       -- what the entry promises of an answer and an output
-      abbrev Told : Written → List ℕ → Type 0
-      Told w s = ((w, s) ≡ write_outcome (level_at FIRST) key lent serial t a out) × (write_leans (level_at FIRST) key lent t a (w ≡ Refused (record { number = 15 })) × ((k : ℕ) → w ≡ Length k → ReadBack (level_at FIRST) key lent serial t a k s))
+      abbrev Told : Result ℕ Refusal → List ℕ → Type 0
+      Told w s = ((w, s) ≡ write_outcome (level_at FIRST) key lent serial t a out) × (write_leans (level_at FIRST) key lent t a (w ≡ Err DependentRows) × ((k : ℕ) → w ≡ Ok k → ReadBack (level_at FIRST) key lent serial t a k s))
 
       -- the package at the start is read back
       reads : {k : ℕ} {s : List ℕ} → (package_form (level_at FIRST)).Limits (data_of key lent serial t a) → k ≡ length bytes → s ≡ bytes ++ drop (length bytes) out → ReadBack (level_at FIRST) key lent serial t a k s
@@ -149,27 +143,27 @@ module _ (key : Key) (lent : KeySlices) (t a : List ℕ) where
           }
 
       module _ {o : Answer} (e : o ≡ rows) where
-        pub length-told : {r : ℕ} {s : List ℕ} → serial < 4294967296 → o ≡ answer.Done → Stands out 0 bytes s r → Told (Length r) s
+        pub length-told : {r : ℕ} {s : List ℕ} → serial < 4294967296 → o ≡ Done → Stands out 0 bytes s r → Told (Ok r) s
         unfolding write_outcome
         length-told {r} {s} small d w =
             let done = sym d ∙ e in
             let is = (first-stands w).0 in
             let size = (first-stands w).1 in
-            let told : Length r ≡ length_as rows (length bytes) = ap Length size ∙ ap (λ x. length_as x (length bytes)) done in
+            let told : Ok r ≡ length_as rows (length bytes) = ap Ok size ∙ ap (λ x. length_as x (length bytes)) done in
             let v = valid serial small (passed (length out) (sym done)).0 in (
-              ap₂ (λ (x : Written) (y : List ℕ). (x, y)) told (is ∙ ap (λ x. kept x (bytes ++ drop (length bytes) out) out) done),
+              ap₂ (λ (x : Result ℕ Refusal) (y : List ℕ). (x, y)) told (is ∙ ap (λ x. kept x (bytes ++ drop (length bytes) out) out) done),
               (leaning_told told, λ k f. reads v (sym (ap value f) ∙ size) is),
             )
           where
-            value : Written → ℕ
-            value (Length n) = n
-            value (Refused r) = 0
+            value : Result ℕ Refusal → ℕ
+            value (Ok n) = n
+            value (Err r) = 0
 
-        pub refused-told : {q : Refusal} → o ≡ answer.Refused q → Told (Refused q) out
+        pub refused-told : {q : Refusal} → o ≡ Err q → Told (Err q) out
         unfolding write_outcome
         refused-told {q} d =
             let given = sym d ∙ e in
-            let told : Refused q ≡ length_as rows (length bytes) = ap (λ x. length_as x (length bytes)) given in (
-              ap₂ (λ (x : Written) (y : List ℕ). (x, y)) told (ap (λ x. kept x (bytes ++ drop (length bytes) out) out) given),
+            let told : Err q ≡ length_as rows (length bytes) = ap (λ x. length_as x (length bytes)) given in (
+              ap₂ (λ (x : Result ℕ Refusal) (y : List ℕ). (x, y)) told (ap (λ x. kept x (bytes ++ drop (length bytes) out) out) given),
               (leaning_told told, λ k f. let z : ◌≡◌ {A = ℕ} 0 1 = cc in absurd (omega arith)),
             )

@@ -1,18 +1,17 @@
 // The entry write_package: for those who store proofs.
 #![tactic(auto)]
 
-ghost use Rattle.std.specs.Prelude.{◌≡◌, [], ◌∷◌, ℕ, ◌+◌, ◌*◌, ◌≤◌, ◌<◌, eqb, length};
+ghost use Rattle.std.specs.Prelude.{◌≡◌, [], ◌∷◌, ℕ, ◌+◌, ◌*◌, ◌≤◌, ◌<◌, length, Ok, Err};
 ghost use Rattle.lists.specs.Words.{put};
 ghost use Rattle.lists.specs.Lent.{long};
 ghost use Rattle.copying.specs.Words.{two_bytes, word_bytes};
-ghost use Rattle.refusal.specs.Answer.{first_of};
-ghost use Rattle.refusal.specs.declared.Answer.TheVariants.{Done};
+ghost use Rattle.refusal.specs.Answer.{first_of, Done};
 ghost use Rattle.field.specs.Level.{FIRST, level_at};
 ghost use Rattle.key.specs.declared.Key.{Key};
 ghost use Rattle.key.specs.Key.{Sized, key_slices, lengths};
 ghost use Rattle.layout.specs.Tests.{zeros};
 ghost use Rattle.package.specs.Written.{joined, serial_bytes, target_fields, key_fields, group_fields};
-ghost use Rattle.writer.specs.declared.Written.TheVariants.{Length, Refused};
+ghost use Rattle.refusal.specs.declared.Refusal.TheVariants.{DependentRows};
 ghost use Rattle.writer.specs.Entry.{number_of, write_lent, package_bytes, write_checks, write_rows, write_leans, write_outcome};
 ghost use Rattle.writer.specs.Laws.{ReadBack};
 
@@ -21,21 +20,11 @@ use key::{Code, Key};
 use layout::Row;
 use refusal::{Answer, Refusal};
 
-// What write_package answers.
-#[derive(Clone, Copy)]
-pub enum Written {
-    Length(usize),
-    Refused(Refusal),
-}
-
 // The answer's number: 0 for a length, else the refusal's.
-pub fn number(answer: Written) -> u32
+pub fn number(answer: Result<usize, Refusal>) -> u32
     ensures { result ≡ number_of answer }
 {
-    match answer {
-        Written::Length(_) => 0,
-        Written::Refused(refusal) => refusal.number,
-    }
+    refusal::number(answer)
 }
 
 // Tag and length of a field, from place at on; answers the place after them.
@@ -43,9 +32,10 @@ fn put_head(tag: u8, len: usize, at: usize, out: &mut [u8]) -> usize
     requires { (len < 65536) × (at + 3 ≤ length out.old) }
     ensures { (out.new ≡ put at (tag ∷ two_bytes len) out.old) × (result ≡ at + 3) }
 {
+    let bytes = (len as u16).to_be_bytes();
     out[at] = tag;
-    out[at + 1] = (len / 256) as u8;
-    out[at + 2] = (len % 256) as u8;
+    out[at + 1] = bytes[0];
+    out[at + 2] = bytes[1];
     at + layout::HEAD
 }
 
@@ -71,14 +61,7 @@ fn put_words_field(tag: u8, words: &[u16], at: usize, out: &mut [u8]) -> usize
 fn zero(s: &[u16]) -> bool
     ensures { result ≡ zeros s.now }
 {
-    let mut i = 0;
-    while i < s.len() {
-        if s[i] != 0 {
-            return false;
-        }
-        i += 1;
-    }
-    true
+    s.iter().all(|x| *x == 0)
 }
 
 // The key's fields, at the start of out; answers where they end.
@@ -103,14 +86,7 @@ fn put_serial(serial: u32, at: usize, out: &mut [u8]) -> usize
     requires { at + length (joined ((0x05, serial_bytes serial) ∷ [])) ≤ length out.old }
     ensures { (out.new ≡ put at (joined ((0x05, serial_bytes serial) ∷ [])) out.old) × (result ≡ at + length (joined ((0x05, serial_bytes serial) ∷ []))) }
 {
-    let high = serial / 65536;
-    let low = serial % 65536;
-    let bytes = [
-        (high / 256) as u8,
-        (high % 256) as u8,
-        (low / 256) as u8,
-        (low % 256) as u8,
-    ];
+    let bytes = serial.to_be_bytes();
     if serial < 65536 {
         put_field(Row::SERIAL, &bytes[2..], at, out)
     } else {
@@ -129,32 +105,28 @@ fn put_group(serial: u32, t: &[u8], a: &[u16], at: usize, out: &mut [u8]) -> usi
     put_words_field(Row::A, a, at, out)
 }
 
-// Zero exactly when each slice has its length.
-fn lengths(key: Key, h: &[u16], x: &[u16], y: &[u16], t: &[u8], a: &[u16]) -> usize
+// Whether each slice has its length.
+fn lengths(key: Key, h: &[u16], x: &[u16], y: &[u16], t: &[u8], a: &[u16]) -> bool
     requires { Sized (level_at FIRST) key }
-    ensures { eqb result 0 ≡ long (write_lent (lengths (level_at FIRST) key) (key_slices h.now x.now y.now) t.now a.now) }
+    ensures { result ≡ long (write_lent (lengths (level_at FIRST) key) (key_slices h.now x.now y.now) t.now a.now) }
 {
     let len = key.lengths(FIRST);
-    let material = (t.len() ^ len.bits) | (a.len() ^ len.proof);
-    (h.len() ^ len.matrix) | ((x.len() ^ len.vector) | ((y.len() ^ len.target) | material))
+    h.len() == len.matrix
+        && x.len() == len.vector
+        && y.len() == len.target
+        && t.len() == len.bits
+        && a.len() == len.proof
 }
 
-// The first refusal of what is lent that applies, or Done.
+// The first refusal of what is lent that applies; Ok where none does.
 fn checks(key: Key, h: &[u16], x: &[u16], y: &[u16], t: &[u8], a: &[u16]) -> Answer
     ensures { result ≡ first_of (write_checks (level_at FIRST) key (key_slices h.now x.now y.now) t.now a.now) }
 {
-    let sizes = key.sizes(FIRST);
-    if let Answer::Refused(_) = sizes {
-        return sizes;
+    key.sizes(FIRST)?;
+    if !lengths(key, h, x, y, t, a) {
+        return Err(Refusal::SliceLength);
     }
-    let slices = lengths(key, h, x, y, t, a);
-    if slices != 0 {
-        return Answer::Refused(Refusal::SLICE_LENGTH);
-    }
-    let contents = key.contents(h, x, y, FIRST);
-    if let Answer::Refused(_) = contents {
-        return contents;
-    }
+    key.contents(h, x, y, FIRST)?;
     key::material(key::over(t, 1), field::excess(a, FIRST), Code::COLUMN)
 }
 
@@ -192,7 +164,7 @@ fn size(h: &[u16], x: &[u16], y: &[u16], serial: u32, t: &[u8], a: &[u16]) -> us
     words + rest + target_size(y) + serial_size(serial)
 }
 
-// The first refusal that applies with an output of so many bytes, or Done.
+// The first refusal that applies with an output of so many bytes; Ok where none does.
 fn refused(
     key: Key,
     h: &[u16],
@@ -205,14 +177,11 @@ fn refused(
 ) -> Answer
     ensures { result ≡ first_of (write_rows (level_at FIRST) key (key_slices h.now x.now y.now) serial t.now a.now room) }
 {
-    let checked = checks(key, h, x, y, t, a);
-    if let Answer::Refused(_) = checked {
-        return checked;
-    }
+    checks(key, h, x, y, t, a)?;
     if room < size(h, x, y, serial, t, a) {
-        Answer::Refused(Refusal::SHORT_OUTPUT)
+        Err(Refusal::ShortOutput)
     } else {
-        Answer::Done
+        Ok(())
     }
 }
 
@@ -226,16 +195,12 @@ pub fn write_package(
     t: &[u8],
     a: &[u16],
     out: &mut [u8],
-) -> Written
+) -> Result<usize, Refusal>
     ensures outcome { (result, out.new) ≡ write_outcome (level_at FIRST) key (key_slices h.now x.now y.now) serial t.now a.now out.old }
-    ensures leans { write_leans (level_at FIRST) key (key_slices h.now x.now y.now) t.now a.now (result ≡ Refused (record { number = 15 })) }
-    ensures reads { (k : ℕ) → result ≡ Length k → ReadBack (level_at FIRST) key (key_slices h.now x.now y.now) serial t.now a.now k out.new }
+    ensures leans { write_leans (level_at FIRST) key (key_slices h.now x.now y.now) t.now a.now (result ≡ Err DependentRows) }
+    ensures reads { (k : ℕ) → result ≡ Ok k → ReadBack (level_at FIRST) key (key_slices h.now x.now y.now) serial t.now a.now k out.new }
 {
-    match refused(key, h, x, y, serial, t, a, out.len()) {
-        Answer::Done => {
-            let at = put_key(key, h, x, y, out);
-            Written::Length(put_group(serial, t, a, at, out))
-        }
-        Answer::Refused(refusal) => Written::Refused(refusal),
-    }
+    refused(key, h, x, y, serial, t, a, out.len())?;
+    let at = put_key(key, h, x, y, out);
+    Ok(put_group(serial, t, a, at, out))
 }

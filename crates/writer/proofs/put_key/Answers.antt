@@ -12,9 +12,7 @@ use Rattle.layout.specs.Tests.{zeros}
 use Rattle.package.specs.Written.{joined, target_fields}
 use Rattle.package.proofs.Target.{absent, present}
 use Rattle.writer.proofs.Fields.{sizes_field, first_fields, three-length, key-length, fields-next}
-use borrow.Author.Rules.{rules}
-use Rattle.writer.proofs.put_key.Statement.{statement}
-use Rattle.writer.proofs.put_key.Tie as tie
+use Rattle.writer.proofs.put_key.Goals as goal
 
 some : (y : List ℕ) → zeros y ≡ false → length (joined (target_fields y)) ≡ length (joined ((0x04, word_bytes y) ∷ []))
 some y e = ap (λ f. length (joined f)) (present y e)
@@ -31,34 +29,19 @@ three key h x y s e f g room =
     let v = fields-next (sizes_field key ∷ []) ((0x02, word_bytes h) ∷ []) w (omega arith) f in
     fields-next (sizes_field key ∷ (0x02, word_bytes h) ∷ []) ((0x03, word_bytes x) ∷ []) v (omega (arith, f.1)) g
 
-overflow_cast-sizes : tie.Need-overflow_cast-sizes
-overflow_cast-sizes c = search rules
+pub put_field-at-requires : goal.put_field-at-requires
+put_field-at-requires c = let a = c.args in (omega arith, omega (arith, key-length a.key a.h.now a.x.now a.y.now))
 
-overflow_cast-sizes-2 : tie.Need-overflow_cast-sizes-2
-overflow_cast-sizes-2 c = search rules
+pub put_words_field-at-requires : goal.put_words_field-at-requires
+put_words_field-at-requires c = let a = c.args in (omega arith, omega (arith, key-length a.key a.h.now a.x.now a.y.now, c.put_field-at.ensures.1))
 
-slice_bounds-put_field-end : tie.Need-slice_bounds-put_field-end
-slice_bounds-put_field-end c = search rules
+pub put_words_field-at-requires-2 : goal.put_words_field-at-requires-2
+put_words_field-at-requires-2 c = let a = c.args in (omega arith, omega (arith, key-length a.key a.h.now a.x.now a.y.now, c.put_field-at.ensures.1, c.put_words_field-at.ensures.1))
 
-put_field-at-requires : tie.Need-put_field-at-requires
-put_field-at-requires c κs = let a = c.args in (omega arith, omega (arith, key-length a.key a.h.now a.x.now a.y.now))
+pub put_words_field-requires : goal.put_words_field-requires
+put_words_field-requires c = let a = c.args in (omega arith, omega (arith, key-length a.key a.h.now a.x.now a.y.now, c.put_field-at.ensures.1, c.put_words_field-at.ensures.1, c.put_words_field-at-2.ensures.1, some a.y.now (sym c.zero.ensures ∙ c.if-zero.false)))
 
-put_words_field-at-requires : tie.Need-put_words_field-at-requires
-put_words_field-at-requires c κs = let a = c.args in (omega arith, omega (arith, key-length a.key a.h.now a.x.now a.y.now, c.put_field-at.ensures.1))
-
-put_words_field-at-requires-2 : tie.Need-put_words_field-at-requires-2
-put_words_field-at-requires-2 c κs = let a = c.args in (omega arith, omega (arith, key-length a.key a.h.now a.x.now a.y.now, c.put_field-at.ensures.1, c.put_words_field-at.ensures.1))
-
-zero-requires : tie.Need-zero-requires
-zero-requires c κs = search rules
-
-put_words_field-requires : tie.Need-put_words_field-requires
-put_words_field-requires c κs = let a = c.args in (omega arith, omega (arith, key-length a.key a.h.now a.x.now a.y.now, c.put_field-at.ensures.1, c.put_words_field-at.ensures.1, c.put_words_field-at-2.ensures.1, some a.y.now (sym c.zero.ensures ∙ c.if-zero.false)))
-
-shape_of-out-then-zero : tie.Need-shape_of-out-then-zero
-shape_of-out-then-zero c = search rules
-
-returns-then-zero : tie.Need-returns-then-zero
+pub returns-then-zero : goal.returns-then-zero
 returns-then-zero c =
     let a = c.args in
     let w = three a.key a.h.now a.x.now a.y.now a.out.now c.put_field-at.ensures c.put_words_field-at.ensures c.put_words_field-at-2.ensures (omega (arith, key-length a.key a.h.now a.x.now a.y.now)) in
@@ -66,10 +49,7 @@ returns-then-zero c =
     let is = ap (λ f. joined (first_fields a.key a.h.now a.x.now ++ f)) (sym y) in
     (w.is ∙ ap (λ b. put 0 b a.out.now) is, omega (arith, w.end, ap length is))
 
-shape_of-out-else-zero : tie.Need-shape_of-out-else-zero
-shape_of-out-else-zero c = search rules
-
-returns-else-zero : tie.Need-returns-else-zero
+pub returns-else-zero : goal.returns-else-zero
 returns-else-zero c =
     let a = c.args in
     let w = three a.key a.h.now a.x.now a.y.now a.out.now c.put_field-at.ensures c.put_words_field-at.ensures c.put_words_field-at-2.ensures (omega (arith, key-length a.key a.h.now a.x.now a.y.now)) in
@@ -77,20 +57,3 @@ returns-else-zero c =
     let v = fields-next (first_fields a.key a.h.now a.x.now) ((0x04, word_bytes a.y.now) ∷ []) w (omega (arith, key-length a.key a.h.now a.x.now a.y.now, some a.y.now none, w.end, three-length (sizes_field a.key) (0x02, word_bytes a.h.now) (0x03, word_bytes a.x.now))) c.put_words_field.ensures in
     let is = ap (λ f. joined (first_fields a.key a.h.now a.x.now ++ f)) (sym (present a.y.now none)) in
     (v.is ∙ ap (λ b. put 0 b a.out.now) is, omega (arith, v.end, ap length is))
-
-pub put_key_spec : {M : Type 1} → statement M
-put_key_spec =
-    tie.close
-    (tie.spec
-    overflow_cast-sizes
-    overflow_cast-sizes-2
-    slice_bounds-put_field-end
-    put_field-at-requires
-    put_words_field-at-requires
-    put_words_field-at-requires-2
-    zero-requires
-    put_words_field-requires
-    shape_of-out-then-zero
-    returns-then-zero
-    shape_of-out-else-zero
-    returns-else-zero)

@@ -3,7 +3,7 @@
 
 ghost use Rattle.std.specs.Prelude.{Ok, ◌≡◌, List, ℕ, ◌+◌, ◌-◌, ◌≤◌, length};
 ghost use Rattle.lists.specs.Words.{part, put};
-ghost use Rattle.refusal.specs.Answer.{first_of};
+ghost use Rattle.refusal.specs.Answer.{first_of, number_of};
 ghost use Rattle.field.specs.Level.{FIRST, level_at};
 ghost use Rattle.layout.specs.Layout.{key_end};
 ghost use Rattle.bundle.specs.Bundle.{starts, bundle_tests, groups_of};
@@ -38,6 +38,13 @@ pub struct Shared {
 pub struct Plan {
     pub start: usize,
     pub size: Size,
+}
+
+// The answer's number: 0 for a size, else the refusal's.
+pub fn number(answer: Result<Size, Refusal>) -> u32
+    ensures { result ≡ number_of answer }
+{
+    refusal::number(answer)
 }
 
 // Whether the bytes are the same. No byte ends the loop, so that the compiler compares many at once.

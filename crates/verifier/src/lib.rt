@@ -7,14 +7,14 @@ ghost use Rattle.lists.specs.Lent.{long};
 ghost use Rattle.refusal.specs.Answer.{first_of, Done};
 ghost use Rattle.refusal.specs.declared.Verdict.TheVariants.{Accepted, Rejected};
 ghost use Rattle.field.specs.Level.{FIRST, level_at};
-ghost use Rattle.key.specs.Key.{Sized, key_slices, lengths};
+ghost use Rattle.key.specs.Key.{Sized, slices_of, lengths};
 ghost use Rattle.constraints.specs.Entry.{system};
 ghost use Rattle.checkzero.specs.Slices.{accepts};
 ghost use Rattle.verifier.specs.Entry.{verify_lent, verify_rows, verify_outcome, verify_leans, Judges};
 
 use field::FIRST;
 use folding::values;
-use key::{Code, Key};
+use key::{Code, Lent};
 use refusal::{Answer, Refusal, Verdict};
 use row::elements;
 
@@ -23,10 +23,7 @@ const COLUMNS: usize = 768;
 
 // Whether each slice has its length.
 fn lengths(
-    key: Key,
-    h: &[u16],
-    x: &[u16],
-    y: &[u16],
+    lent: &Lent<'_>,
     t: &[u8],
     q: &[u16],
     delta: &[u16],
@@ -34,13 +31,13 @@ fn lengths(
     alpha: &[u16],
     a: &[u16],
 ) -> bool
-    requires { Sized (level_at FIRST) key }
-    ensures { result ≡ long (verify_lent (lengths (level_at FIRST) key) (key_slices h.now x.now y.now) t.now q.now delta.now masks.now alpha.now a.now) }
+    requires { Sized (level_at FIRST) lent.now.key }
+    ensures { result ≡ long (verify_lent (lengths (level_at FIRST) lent.now.key) (slices_of lent.now) t.now q.now delta.now masks.now alpha.now a.now) }
 {
-    let len = key.lengths(FIRST);
-    h.len() == len.matrix
-        && x.len() == len.vector
-        && y.len() == len.target
+    let len = lent.key.lengths(FIRST);
+    lent.h.len() == len.matrix
+        && lent.x.len() == len.vector
+        && lent.y.len() == len.target
         && t.len() == len.bits
         && q.len() == len.elements
         && delta.len() == len.one
@@ -51,10 +48,7 @@ fn lengths(
 
 // The first refusal that applies; Ok where none does.
 fn refused(
-    key: Key,
-    h: &[u16],
-    x: &[u16],
-    y: &[u16],
+    lent: &Lent<'_>,
     t: &[u8],
     q: &[u16],
     delta: &[u16],
@@ -62,13 +56,13 @@ fn refused(
     alpha: &[u16],
     a: &[u16],
 ) -> Answer
-    ensures { result ≡ first_of (verify_rows (level_at FIRST) key (key_slices h.now x.now y.now) t.now q.now delta.now masks.now alpha.now a.now) }
+    ensures { result ≡ first_of (verify_rows (level_at FIRST) lent.now.key (slices_of lent.now) t.now q.now delta.now masks.now alpha.now a.now) }
 {
-    key.sizes(FIRST)?;
-    if !lengths(key, h, x, y, t, q, delta, masks, alpha, a) {
+    lent.key.sizes(FIRST)?;
+    if !lengths(lent, t, q, delta, masks, alpha, a) {
         return Err(Refusal::SliceLength);
     }
-    key.contents(h, x, y, FIRST)?;
+    lent.contents(FIRST)?;
     let coordinates = field::excess(q, FIRST)
         | (field::excess(delta, FIRST)
             | (field::excess(masks, FIRST)
@@ -79,10 +73,7 @@ fn refused(
 // Zero exactly when a at the challenge equals the weighted sum of the values plus the mask sum. The last four slices are room for an
 // element for each of 2^d columns.
 fn difference(
-    key: Key,
-    h: &[u16],
-    x: &[u16],
-    y: &[u16],
+    lent: &Lent<'_>,
     t: &[u8],
     q: &[u16],
     delta: &[u16],
@@ -94,15 +85,15 @@ fn difference(
     columns: &mut [u16],
     second: &mut [u16],
 ) -> u16
-    requires a_value { first_of (verify_rows (level_at FIRST) key (key_slices h.now x.now y.now) t.now q.now delta.now masks.now alpha.now a.now) ≡ Done }
+    requires a_value { first_of (verify_rows (level_at FIRST) lent.now.key (slices_of lent.now) t.now q.now delta.now masks.now alpha.now a.now) ≡ Done }
     requires beta_len { (length beta.old ≡ 768) × (length scaled.old ≡ 768) × (length columns.old ≡ 768) × (length second.old ≡ 768) }
-    ensures { eqb result 0 ≡ accepts (level_at FIRST) (system (level_at FIRST) key (key_slices h.now x.now y.now)) t.now q.now delta.now masks.now alpha.now a.now }
+    ensures { eqb result 0 ≡ accepts (level_at FIRST) (system (level_at FIRST) lent.now.key (slices_of lent.now)) t.now q.now delta.now masks.now alpha.now a.now }
 {
-    let n = key.n;
-    let m = key.m;
-    let d = key.degree();
+    let n = lent.key.n;
+    let m = lent.key.m;
+    let d = lent.key.degree();
     let values = values::weighted(
-        n, m, d, h, x, y, t, q, delta, alpha, beta, scaled, columns, second, FIRST,
+        n, m, d, lent.h, lent.x, lent.y, t, q, delta, alpha, beta, scaled, columns, second, FIRST,
     );
     let challenge = elements::get(delta, 0, FIRST);
     let expected = values.plus(checkzero::mask_sum(masks, challenge, d - 1, FIRST), FIRST);
@@ -112,10 +103,7 @@ fn difference(
 
 // The same, with room of its own.
 fn work(
-    key: Key,
-    h: &[u16],
-    x: &[u16],
-    y: &[u16],
+    lent: &Lent<'_>,
     t: &[u8],
     q: &[u16],
     delta: &[u16],
@@ -123,18 +111,15 @@ fn work(
     alpha: &[u16],
     a: &[u16],
 ) -> u16
-    requires { first_of (verify_rows (level_at FIRST) key (key_slices h.now x.now y.now) t.now q.now delta.now masks.now alpha.now a.now) ≡ Done }
-    ensures { eqb result 0 ≡ accepts (level_at FIRST) (system (level_at FIRST) key (key_slices h.now x.now y.now)) t.now q.now delta.now masks.now alpha.now a.now }
+    requires { first_of (verify_rows (level_at FIRST) lent.now.key (slices_of lent.now) t.now q.now delta.now masks.now alpha.now a.now) ≡ Done }
+    ensures { eqb result 0 ≡ accepts (level_at FIRST) (system (level_at FIRST) lent.now.key (slices_of lent.now)) t.now q.now delta.now masks.now alpha.now a.now }
 {
     let mut beta = [0u16; COLUMNS];
     let mut scaled = [0u16; COLUMNS];
     let mut columns = [0u16; COLUMNS];
     let mut second = [0u16; COLUMNS];
     difference(
-        key,
-        h,
-        x,
-        y,
+        lent,
         t,
         q,
         delta,
@@ -150,10 +135,7 @@ fn work(
 
 // Accepted exactly when a at the challenge equals the weighted sum of the values plus the mask sum.
 pub fn verify(
-    key: Key,
-    h: &[u16],
-    x: &[u16],
-    y: &[u16],
+    lent: &Lent<'_>,
     t: &[u8],
     q: &[u16],
     delta: &[u16],
@@ -161,12 +143,12 @@ pub fn verify(
     alpha: &[u16],
     a: &[u16],
 ) -> Result<Verdict, Refusal>
-    ensures outcome { result ≡ verify_outcome (level_at FIRST) key (key_slices h.now x.now y.now) t.now q.now delta.now masks.now alpha.now a.now }
-    ensures leans { verify_leans (level_at FIRST) key (key_slices h.now x.now y.now) t.now q.now delta.now masks.now alpha.now a.now (result ≡ Err DependentRows) }
-    ensures judges { Judges (level_at FIRST) key (key_slices h.now x.now y.now) t.now q.now delta.now masks.now alpha.now a.now (result ≡ Ok Accepted) (result ≡ Ok Rejected) }
+    ensures outcome { result ≡ verify_outcome (level_at FIRST) lent.now.key (slices_of lent.now) t.now q.now delta.now masks.now alpha.now a.now }
+    ensures leans { verify_leans (level_at FIRST) lent.now.key (slices_of lent.now) t.now q.now delta.now masks.now alpha.now a.now (result ≡ Err DependentRows) }
+    ensures judges { Judges (level_at FIRST) lent.now.key (slices_of lent.now) t.now q.now delta.now masks.now alpha.now a.now (result ≡ Ok Accepted) (result ≡ Ok Rejected) }
 {
-    refused(key, h, x, y, t, q, delta, masks, alpha, a)?;
-    if work(key, h, x, y, t, q, delta, masks, alpha, a) == 0 {
+    refused(lent, t, q, delta, masks, alpha, a)?;
+    if work(lent, t, q, delta, masks, alpha, a) == 0 {
         Ok(Verdict::Accepted)
     } else {
         Ok(Verdict::Rejected)

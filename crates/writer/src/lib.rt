@@ -8,7 +8,7 @@ ghost use Rattle.copying.specs.Words.{two_bytes, word_bytes};
 ghost use Rattle.refusal.specs.Answer.{first_of, Done};
 ghost use Rattle.field.specs.Level.{FIRST, level_at};
 ghost use Rattle.key.specs.declared.Key.{Key};
-ghost use Rattle.key.specs.Key.{Sized, key_slices, lengths};
+ghost use Rattle.key.specs.Key.{Sized, slices_of, lengths};
 ghost use Rattle.layout.specs.Tests.{zeros};
 ghost use Rattle.package.specs.Written.{joined, serial_bytes, target_fields, key_fields, group_fields};
 ghost use Rattle.refusal.specs.declared.Refusal.TheVariants.{DependentRows};
@@ -16,7 +16,7 @@ ghost use Rattle.writer.specs.Entry.{number_of, write_lent, package_bytes, write
 ghost use Rattle.writer.specs.Laws.{ReadBack};
 
 use field::FIRST;
-use key::{Code, Key};
+use key::{Code, Lent};
 use layout::Row;
 use refusal::{Answer, Refusal};
 
@@ -65,19 +65,19 @@ fn zero(s: &[u16]) -> bool
 }
 
 // The key's fields, at the start of out; answers where they end.
-fn put_key(key: Key, h: &[u16], x: &[u16], y: &[u16], out: &mut [u8]) -> usize
-    requires n_bound { (key.n < 256) × (key.m < 256) × (2 * length h.now < 65536) × (2 * length x.now < 65536) × (2 * length y.now < 65536) }
-    requires y_in_bounds { length (joined (key_fields (record { sizes = key; slices = key_slices h.now x.now y.now }))) ≤ length out.old }
-    ensures { (out.new ≡ put 0 (joined (key_fields (record { sizes = key; slices = key_slices h.now x.now y.now }))) out.old) × (result ≡ length (joined (key_fields (record { sizes = key; slices = key_slices h.now x.now y.now })))) }
+fn put_key(lent: &Lent<'_>, out: &mut [u8]) -> usize
+    requires n_bound { (lent.now.key.n < 256) × (lent.now.key.m < 256) × (2 * length lent.now.h.now < 65536) × (2 * length lent.now.x.now < 65536) × (2 * length lent.now.y.now < 65536) }
+    requires y_in_bounds { length (joined (key_fields (record { sizes = lent.now.key; slices = slices_of lent.now }))) ≤ length out.old }
+    ensures { (out.new ≡ put 0 (joined (key_fields (record { sizes = lent.now.key; slices = slices_of lent.now }))) out.old) × (result ≡ length (joined (key_fields (record { sizes = lent.now.key; slices = slices_of lent.now })))) }
 {
-    let sizes = [key.n as u8, key.m as u8];
+    let sizes = [lent.key.n as u8, lent.key.m as u8];
     let at = put_field(Row::SIZES.tag, &sizes, 0, out);
-    let at = put_words_field(Row::H, h, at, out);
-    let at = put_words_field(Row::X, x, at, out);
-    if zero(y) {
+    let at = put_words_field(Row::H, lent.h, at, out);
+    let at = put_words_field(Row::X, lent.x, at, out);
+    if zero(lent.y) {
         at
     } else {
-        put_words_field(Row::Y, y, at, out)
+        put_words_field(Row::Y, lent.y, at, out)
     }
 }
 
@@ -106,27 +106,27 @@ fn put_group(serial: u32, t: &[u8], a: &[u16], at: usize, out: &mut [u8]) -> usi
 }
 
 // Whether each slice has its length.
-fn lengths(key: Key, h: &[u16], x: &[u16], y: &[u16], t: &[u8], a: &[u16]) -> bool
-    requires { Sized (level_at FIRST) key }
-    ensures { result ≡ long (write_lent (lengths (level_at FIRST) key) (key_slices h.now x.now y.now) t.now a.now) }
+fn lengths(lent: &Lent<'_>, t: &[u8], a: &[u16]) -> bool
+    requires { Sized (level_at FIRST) lent.now.key }
+    ensures { result ≡ long (write_lent (lengths (level_at FIRST) lent.now.key) (slices_of lent.now) t.now a.now) }
 {
-    let len = key.lengths(FIRST);
-    h.len() == len.matrix
-        && x.len() == len.vector
-        && y.len() == len.target
+    let len = lent.key.lengths(FIRST);
+    lent.h.len() == len.matrix
+        && lent.x.len() == len.vector
+        && lent.y.len() == len.target
         && t.len() == len.bits
         && a.len() == len.proof
 }
 
 // The first refusal of what is lent that applies; Ok where none does.
-fn checks(key: Key, h: &[u16], x: &[u16], y: &[u16], t: &[u8], a: &[u16]) -> Answer
-    ensures { result ≡ first_of (write_checks (level_at FIRST) key (key_slices h.now x.now y.now) t.now a.now) }
+fn checks(lent: &Lent<'_>, t: &[u8], a: &[u16]) -> Answer
+    ensures { result ≡ first_of (write_checks (level_at FIRST) lent.now.key (slices_of lent.now) t.now a.now) }
 {
-    key.sizes(FIRST)?;
-    if !lengths(key, h, x, y, t, a) {
+    lent.key.sizes(FIRST)?;
+    if !lengths(lent, t, a) {
         return Err(Refusal::SliceLength);
     }
-    key.contents(h, x, y, FIRST)?;
+    lent.contents(FIRST)?;
     key::material(key::over(t, 1), field::excess(a, FIRST), Code::COLUMN)
 }
 
@@ -154,31 +154,22 @@ fn serial_size(serial: u32) -> usize
 }
 
 // The length of the package, whatever n and m.
-fn size(h: &[u16], x: &[u16], y: &[u16], serial: u32, t: &[u8], a: &[u16]) -> usize
-    requires { (2 * length h.now < 65536) × (2 * length x.now < 65536) × (2 * length y.now < 65536) × (length t.now < 65536) × (2 * length a.now < 65536) }
-    ensures { (key : Key) → result ≡ length (package_bytes (level_at FIRST) key (key_slices h.now x.now y.now) serial t.now a.now) }
+fn size(lent: &Lent<'_>, serial: u32, t: &[u8], a: &[u16]) -> usize
+    requires { (2 * length lent.now.h.now < 65536) × (2 * length lent.now.x.now < 65536) × (2 * length lent.now.y.now < 65536) × (length t.now < 65536) × (2 * length a.now < 65536) }
+    ensures { (key : Key) → result ≡ length (package_bytes (level_at FIRST) key (slices_of lent.now) serial t.now a.now) }
 {
-    let words = 2 * h.len() + 2 * x.len() + 2 * a.len();
+    let words = 2 * lent.h.len() + 2 * lent.x.len() + 2 * a.len();
     // the heads of five fields, n and m
     let rest = 5 * layout::HEAD + 2 + t.len();
-    words + rest + target_size(y) + serial_size(serial)
+    words + rest + target_size(lent.y) + serial_size(serial)
 }
 
 // The first refusal that applies with an output of so many bytes; Ok where none does.
-fn refused(
-    key: Key,
-    h: &[u16],
-    x: &[u16],
-    y: &[u16],
-    serial: u32,
-    t: &[u8],
-    a: &[u16],
-    room: usize,
-) -> Answer
-    ensures { result ≡ first_of (write_rows (level_at FIRST) key (key_slices h.now x.now y.now) serial t.now a.now room) }
+fn refused(lent: &Lent<'_>, serial: u32, t: &[u8], a: &[u16], room: usize) -> Answer
+    ensures { result ≡ first_of (write_rows (level_at FIRST) lent.now.key (slices_of lent.now) serial t.now a.now room) }
 {
-    checks(key, h, x, y, t, a)?;
-    if room < size(h, x, y, serial, t, a) {
+    checks(lent, t, a)?;
+    if room < size(lent, serial, t, a) {
         Err(Refusal::ShortOutput)
     } else {
         Ok(())
@@ -187,20 +178,17 @@ fn refused(
 
 // The package, at the start of out, whose further bytes stay; answers its length.
 pub fn write_package(
-    key: Key,
-    h: &[u16],
-    x: &[u16],
-    y: &[u16],
+    lent: &Lent<'_>,
     serial: u32,
     t: &[u8],
     a: &[u16],
     out: &mut [u8],
 ) -> Result<usize, Refusal>
-    ensures outcome { (result, out.new) ≡ write_outcome (level_at FIRST) key (key_slices h.now x.now y.now) serial t.now a.now out.old }
-    ensures leans { write_leans (level_at FIRST) key (key_slices h.now x.now y.now) t.now a.now (result ≡ Err DependentRows) }
-    ensures reads { (k : ℕ) → result ≡ Ok k → ReadBack (level_at FIRST) key (key_slices h.now x.now y.now) serial t.now a.now k out.new }
+    ensures outcome { (result, out.new) ≡ write_outcome (level_at FIRST) lent.now.key (slices_of lent.now) serial t.now a.now out.old }
+    ensures leans { write_leans (level_at FIRST) lent.now.key (slices_of lent.now) t.now a.now (result ≡ Err DependentRows) }
+    ensures reads { (k : ℕ) → result ≡ Ok k → ReadBack (level_at FIRST) lent.now.key (slices_of lent.now) serial t.now a.now k out.new }
 {
-    refused(key, h, x, y, serial, t, a, out.len())?;
-    let at = put_key(key, h, x, y, out);
+    refused(lent, serial, t, a, out.len())?;
+    let at = put_key(lent, out);
     Ok(put_group(serial, t, a, at, out))
 }

@@ -30,30 +30,30 @@ three key h x y s e f g room =
     fields-next (sizes_field key ∷ (0x02, word_bytes h) ∷ []) ((0x03, word_bytes x) ∷ []) v (omega (arith, f.1)) g
 
 pub put_field-at-requires : goal.put_field-at-requires
-put_field-at-requires c = let a = c.args in (omega arith, omega (arith, key-length a.key a.h.now a.x.now a.y.now))
+put_field-at-requires c = let a = c.args in (omega arith, omega (arith, key-length a.lent.now.key a.lent.now.h.now a.lent.now.x.now a.lent.now.y.now))
 
 pub put_words_field-at-requires : goal.put_words_field-at-requires
-put_words_field-at-requires c = let a = c.args in (omega arith, omega (arith, key-length a.key a.h.now a.x.now a.y.now, c.put_field-at.ensures.1))
+put_words_field-at-requires c = let a = c.args in (omega arith, omega (arith, key-length a.lent.now.key a.lent.now.h.now a.lent.now.x.now a.lent.now.y.now, c.put_field-at.ensures.1))
 
 pub put_words_field-at-requires-2 : goal.put_words_field-at-requires-2
-put_words_field-at-requires-2 c = let a = c.args in (omega arith, omega (arith, key-length a.key a.h.now a.x.now a.y.now, c.put_field-at.ensures.1, c.put_words_field-at.ensures.1))
+put_words_field-at-requires-2 c = let a = c.args in (omega arith, omega (arith, key-length a.lent.now.key a.lent.now.h.now a.lent.now.x.now a.lent.now.y.now, c.put_field-at.ensures.1, c.put_words_field-at.ensures.1))
 
 pub put_words_field-requires : goal.put_words_field-requires
-put_words_field-requires c = let a = c.args in (omega arith, omega (arith, key-length a.key a.h.now a.x.now a.y.now, c.put_field-at.ensures.1, c.put_words_field-at.ensures.1, c.put_words_field-at-2.ensures.1, some a.y.now (sym c.zero.ensures ∙ c.if-zero.false)))
+put_words_field-requires c = let a = c.args in (omega arith, omega (arith, key-length a.lent.now.key a.lent.now.h.now a.lent.now.x.now a.lent.now.y.now, c.put_field-at.ensures.1, c.put_words_field-at.ensures.1, c.put_words_field-at-2.ensures.1, some a.lent.now.y.now (sym c.zero.ensures ∙ c.if-zero.false)))
 
 pub returns-then-zero : goal.returns-then-zero
 returns-then-zero c =
     let a = c.args in
-    let w = three a.key a.h.now a.x.now a.y.now a.out.now c.put_field-at.ensures c.put_words_field-at.ensures c.put_words_field-at-2.ensures (omega (arith, key-length a.key a.h.now a.x.now a.y.now)) in
-    let y = absent a.y.now (sym c.zero.ensures ∙ c.if-zero.true) in
-    let is = ap (λ f. joined (first_fields a.key a.h.now a.x.now ++ f)) (sym y) in
+    let w = three a.lent.now.key a.lent.now.h.now a.lent.now.x.now a.lent.now.y.now a.out.now c.put_field-at.ensures c.put_words_field-at.ensures c.put_words_field-at-2.ensures (omega (arith, key-length a.lent.now.key a.lent.now.h.now a.lent.now.x.now a.lent.now.y.now)) in
+    let y = absent a.lent.now.y.now (sym c.zero.ensures ∙ c.if-zero.true) in
+    let is = ap (λ f. joined (first_fields a.lent.now.key a.lent.now.h.now a.lent.now.x.now ++ f)) (sym y) in
     (w.is ∙ ap (λ b. put 0 b a.out.now) is, omega (arith, w.end, ap length is))
 
 pub returns-else-zero : goal.returns-else-zero
 returns-else-zero c =
     let a = c.args in
-    let w = three a.key a.h.now a.x.now a.y.now a.out.now c.put_field-at.ensures c.put_words_field-at.ensures c.put_words_field-at-2.ensures (omega (arith, key-length a.key a.h.now a.x.now a.y.now)) in
+    let w = three a.lent.now.key a.lent.now.h.now a.lent.now.x.now a.lent.now.y.now a.out.now c.put_field-at.ensures c.put_words_field-at.ensures c.put_words_field-at-2.ensures (omega (arith, key-length a.lent.now.key a.lent.now.h.now a.lent.now.x.now a.lent.now.y.now)) in
     let none = sym c.zero.ensures ∙ c.if-zero.false in
-    let v = fields-next (first_fields a.key a.h.now a.x.now) ((0x04, word_bytes a.y.now) ∷ []) w (omega (arith, key-length a.key a.h.now a.x.now a.y.now, some a.y.now none, w.end, three-length (sizes_field a.key) (0x02, word_bytes a.h.now) (0x03, word_bytes a.x.now))) c.put_words_field.ensures in
-    let is = ap (λ f. joined (first_fields a.key a.h.now a.x.now ++ f)) (sym (present a.y.now none)) in
+    let v = fields-next (first_fields a.lent.now.key a.lent.now.h.now a.lent.now.x.now) ((0x04, word_bytes a.lent.now.y.now) ∷ []) w (omega (arith, key-length a.lent.now.key a.lent.now.h.now a.lent.now.x.now a.lent.now.y.now, some a.lent.now.y.now none, w.end, three-length (sizes_field a.lent.now.key) (0x02, word_bytes a.lent.now.h.now) (0x03, word_bytes a.lent.now.x.now))) c.put_words_field.ensures in
+    let is = ap (λ f. joined (first_fields a.lent.now.key a.lent.now.h.now a.lent.now.x.now ++ f)) (sym (present a.lent.now.y.now none)) in
     (v.is ∙ ap (λ b. put 0 b a.out.now) is, omega (arith, v.end, ap length is))

@@ -8,7 +8,6 @@ ghost use Rattle.field.specs.Level.{level_at, K};
 ghost use Rattle.field.specs.Packed.{Holds};
 ghost use Rattle.field.specs.Word.{words, is_zero, Words};
 ghost use Rattle.row.specs.Elements.{el, Fits, value_of, Held};
-ghost use Rattle.row.specs.Lent.{LentKey};
 ghost use Rattle.row.specs.Step.{Step, Added};
 ghost use Rattle.checkzero.specs.CheckZero.{mask, mask_sum};
 ghost use Rattle.checkzero.specs.Slices.{every};
@@ -17,6 +16,7 @@ ghost use Rattle.checkzero.specs.Steps.{weighted_at, evaluated, AtMask};
 use field::{Element, Multiples};
 use folding::polynomials;
 use row::elements;
+use row::equations::Matrix;
 
 // Zero exactly when each of the first size elements is zero.
 pub fn nonzero(p: &[u16], size: usize, level: usize) -> u16
@@ -45,11 +45,7 @@ fn add_masks(dst: &mut [u16], r: &[u16], s: &[u16], count: usize, level: usize)
 // (d + 1) 2^d.
 pub fn proof(
     a: &mut [u16],
-    n: usize,
-    m: usize,
-    d: usize,
-    h: &[u16],
-    x: &[u16],
+    matrix: &Matrix<'_>,
     positions: &[u8],
     v: &[u16],
     alpha: &[u16],
@@ -57,15 +53,14 @@ pub fn proof(
     s: &[u16],
     beta: &mut [u16],
     work: &mut [u16],
-    level: usize,
 )
-    requires lent_key { LentKey (level_at level) n m h.now x.now × Words (level_at level) v.now × Words (level_at level) alpha.now × Words (level_at level) r.now × Words (level_at level) s.now }
-    requires coordinates_nonzero { (0 < (level_at level).coordinates) × (1 ≤ d) × (d < 64) × (n ≤ 2 ^ d) × (length positions.now ≡ n) × (length v.now ≡ (level_at level).coordinates * (d * n)) × (length a.old ≡ (level_at level).coordinates * d) }
-    requires fits { Fits (level_at level) (n + m) (length alpha.now) × Fits (level_at level) (d - 1) (length r.now) × Fits (level_at level) (d - 1) (length s.now) × Fits (level_at level) n (length beta.old) × Fits (level_at level) ((d + 1) * 2 ^ d) (length work.old) }
-    ensures { (y : List ℕ) → a.new ≡ concat d (λ k. words (level_at level) ((K (level_at level)).add (weighted_at (level_at level) n m d h.now x.now y positions.now v.now alpha.now k) (mask (K (level_at level)) (d - 1) (el (level_at level) r.now) (el (level_at level) s.now) k))) }
+    requires words { Words (level_at matrix.now.level) v.now × Words (level_at matrix.now.level) alpha.now × Words (level_at matrix.now.level) r.now × Words (level_at matrix.now.level) s.now }
+    requires coordinates_nonzero { (0 < (level_at matrix.now.level).coordinates) × (1 ≤ matrix.now.d) × (matrix.now.d < 64) × (length positions.now ≡ matrix.now.n) × (length v.now ≡ (level_at matrix.now.level).coordinates * (matrix.now.d * matrix.now.n)) × (length a.old ≡ (level_at matrix.now.level).coordinates * matrix.now.d) }
+    requires fits { Fits (level_at matrix.now.level) (matrix.now.n + matrix.now.m) (length alpha.now) × Fits (level_at matrix.now.level) (matrix.now.d - 1) (length r.now) × Fits (level_at matrix.now.level) (matrix.now.d - 1) (length s.now) × Fits (level_at matrix.now.level) matrix.now.n (length beta.old) × Fits (level_at matrix.now.level) ((matrix.now.d + 1) * 2 ^ matrix.now.d) (length work.old) }
+    ensures { (y : List ℕ) → a.new ≡ concat matrix.now.d (λ k. words (level_at matrix.now.level) ((K (level_at matrix.now.level)).add (weighted_at (level_at matrix.now.level) matrix.now.n matrix.now.m matrix.now.d matrix.now.h.now matrix.now.x.now y positions.now v.now alpha.now k) (mask (K (level_at matrix.now.level)) (matrix.now.d - 1) (el (level_at matrix.now.level) r.now) (el (level_at matrix.now.level) s.now) k))) }
 {
-    polynomials::weighted(a, n, m, d, h, x, positions, v, alpha, beta, work, level);
-    add_masks(a, r, s, d - 1, level);
+    polynomials::weighted(a, matrix, positions, v, alpha, beta, work);
+    add_masks(a, r, s, matrix.d - 1, matrix.level);
 }
 
 // The polynomial of count coefficients a at the challenge.

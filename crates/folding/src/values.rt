@@ -3,8 +3,8 @@ ghost use Rattle.std.specs.Prelude.{◌≡◌, ℕ, ◌+◌, ◌-◌, ◌*◌, �
 ghost use Rattle.field.specs.Level.{level_at, K};
 ghost use Rattle.field.specs.Word.{odd, Words};
 ghost use Rattle.field.specs.Packed.{Holds, Multiplies};
-ghost use Rattle.row.specs.Elements.{el, Fits, Within, Bits, Held, Tabled, value_of};
-ghost use Rattle.row.specs.Lent.{LentKey, LentTarget, small_of, entry_of, bit_of, element_of};
+ghost use Rattle.row.specs.Elements.{el, Fits, Bits, Held, Tabled, value_of};
+ghost use Rattle.row.specs.Lent.{small_of, entry_of, bit_of, element_of};
 ghost use Rattle.row.specs.Polynomial.{sum, value, column_value, check_value};
 ghost use Rattle.row.specs.Step.{Step, Put};
 ghost use Rattle.folding.specs.Weights.{weighted_sum, leaf};
@@ -12,6 +12,7 @@ ghost use Rattle.folding.specs.Steps.{Folded, row_total};
 
 use crate::{leaves, power};
 use field::{Element, Multiples};
+use row::equations::{Equations, Matrix};
 use row::{elements, products, sums};
 
 // The factor of a table times each of the first n elements of src, written to dst.
@@ -104,9 +105,7 @@ fn digits(
 // The total of a row: the weight of each column times its value. The row's bits and numbers stand from at on; beta is the weight of its
 // x', and scaled has delta times each of the first n elements of alpha.
 fn row(
-    n: usize,
-    d: usize,
-    x: &[u16],
+    matrix: &Matrix<'_>,
     bits: &[u8],
     numbers: &[u16],
     at: usize,
@@ -116,12 +115,12 @@ fn row(
     beta: Element,
     work: &mut [u16],
     second: &mut [u16],
-    level: usize,
 ) -> Element
-    requires words { Words (level_at level) numbers.now × Words (level_at level) alpha.now × Words (level_at level) scaled.now × Words (level_at level) work.old × Words (level_at level) second.old × Bits bits.now × Within (level_at level) x.now × Held (level_at level) beta.words × Tabled (level_at level) delta }
-    requires le_d { (1 ≤ d) × (n ≤ 2 ^ d) × (n ≤ length x.now) × Fits (level_at level) (at + d) (length numbers.now) × (at + d ≤ length bits.now) × Fits (level_at level) n (length alpha.now) × Fits (level_at level) n (length scaled.now) × Fits (level_at level) (2 ^ d) (length work.old) × Fits (level_at level) (2 ^ d) (length second.old) × ((Δ : (K (level_at level)).Carrier) → Multiplies (level_at level) delta Δ → (j : ℕ) → j < n → el (level_at level) scaled.now j ≡ (K (level_at level)).mul Δ (el (level_at level) alpha.now j)) }
-    ensures { ((Δ : (K (level_at level)).Carrier) → Multiplies (level_at level) delta Δ → Holds (level_at level) result.words (sum (K (level_at level)) n (λ j. (K (level_at level)).mul (leaf (K (level_at level)) (el (level_at level) alpha.now) (small_of (level_at level) x.now) (value_of (level_at level) beta.words) j) (value (K (level_at level)) d (λ k. odd (get_or bits.now (at + k) 0)) (λ k. el (level_at level) numbers.now (at + k)) Δ j)))) × Words (level_at level) work.new × Words (level_at level) second.new }
+    requires words { Words (level_at matrix.now.level) numbers.now × Words (level_at matrix.now.level) alpha.now × Words (level_at matrix.now.level) scaled.now × Words (level_at matrix.now.level) work.old × Words (level_at matrix.now.level) second.old × Bits bits.now × Held (level_at matrix.now.level) beta.words × Tabled (level_at matrix.now.level) delta }
+    requires le_d { (1 ≤ matrix.now.d) × Fits (level_at matrix.now.level) (at + matrix.now.d) (length numbers.now) × (at + matrix.now.d ≤ length bits.now) × Fits (level_at matrix.now.level) matrix.now.n (length alpha.now) × Fits (level_at matrix.now.level) matrix.now.n (length scaled.now) × Fits (level_at matrix.now.level) (2 ^ matrix.now.d) (length work.old) × Fits (level_at matrix.now.level) (2 ^ matrix.now.d) (length second.old) × ((Δ : (K (level_at matrix.now.level)).Carrier) → Multiplies (level_at matrix.now.level) delta Δ → (j : ℕ) → j < matrix.now.n → el (level_at matrix.now.level) scaled.now j ≡ (K (level_at matrix.now.level)).mul Δ (el (level_at matrix.now.level) alpha.now j)) }
+    ensures { ((Δ : (K (level_at matrix.now.level)).Carrier) → Multiplies (level_at matrix.now.level) delta Δ → Holds (level_at matrix.now.level) result.words (sum (K (level_at matrix.now.level)) matrix.now.n (λ j. (K (level_at matrix.now.level)).mul (leaf (K (level_at matrix.now.level)) (el (level_at matrix.now.level) alpha.now) (small_of (level_at matrix.now.level) matrix.now.x.now) (value_of (level_at matrix.now.level) beta.words) j) (value (K (level_at matrix.now.level)) matrix.now.d (λ k. odd (get_or bits.now (at + k) 0)) (λ k. el (level_at matrix.now.level) numbers.now (at + k)) Δ j)))) × Words (level_at matrix.now.level) work.new × Words (level_at matrix.now.level) second.new }
 {
+    let Matrix { n, d, level, x, .. } = *matrix;
     let half = power(d - 1);
     let place = (bits[at] as usize) * half;
     let own = Multiples::of(beta, level);
@@ -135,9 +134,7 @@ fn row(
 
 // The sum of the totals of all rows: beta has the weight of each row's x'.
 fn all_rows(
-    n: usize,
-    d: usize,
-    x: &[u16],
+    matrix: &Matrix<'_>,
     bits: &[u8],
     numbers: &[u16],
     delta: Multiples,
@@ -146,18 +143,18 @@ fn all_rows(
     beta: &[u16],
     work: &mut [u16],
     second: &mut [u16],
-    level: usize,
 ) -> Element
-    requires words { Words (level_at level) numbers.now × Words (level_at level) alpha.now × Words (level_at level) scaled.now × Words (level_at level) beta.now × Words (level_at level) work.old × Words (level_at level) second.old × Bits bits.now × Within (level_at level) x.now × Tabled (level_at level) delta }
-    requires le_d { (1 ≤ d) × (n ≤ 2 ^ d) × (n ≤ length x.now) × Fits (level_at level) (d * n) (length numbers.now) × (d * n ≤ length bits.now) × Fits (level_at level) n (length alpha.now) × Fits (level_at level) n (length scaled.now) × Fits (level_at level) n (length beta.now) × Fits (level_at level) (2 ^ d) (length work.old) × Fits (level_at level) (2 ^ d) (length second.old) × ((Δ : (K (level_at level)).Carrier) → Multiplies (level_at level) delta Δ → (j : ℕ) → j < n → el (level_at level) scaled.now j ≡ (K (level_at level)).mul Δ (el (level_at level) alpha.now j)) }
-    ensures { (Δ : (K (level_at level)).Carrier) → Multiplies (level_at level) delta Δ → Holds (level_at level) result.words (sum (K (level_at level)) n (λ i. sum (K (level_at level)) n (λ j. (K (level_at level)).mul (leaf (K (level_at level)) (el (level_at level) alpha.now) (small_of (level_at level) x.now) (el (level_at level) beta.now i) j) (value (K (level_at level)) d (bit_of d bits.now i) (element_of (level_at level) d numbers.now i) Δ j)))) }
+    requires words { Words (level_at matrix.now.level) numbers.now × Words (level_at matrix.now.level) alpha.now × Words (level_at matrix.now.level) scaled.now × Words (level_at matrix.now.level) beta.now × Words (level_at matrix.now.level) work.old × Words (level_at matrix.now.level) second.old × Bits bits.now × Tabled (level_at matrix.now.level) delta }
+    requires le_d { (1 ≤ matrix.now.d) × Fits (level_at matrix.now.level) (matrix.now.d * matrix.now.n) (length numbers.now) × (matrix.now.d * matrix.now.n ≤ length bits.now) × Fits (level_at matrix.now.level) matrix.now.n (length alpha.now) × Fits (level_at matrix.now.level) matrix.now.n (length scaled.now) × Fits (level_at matrix.now.level) matrix.now.n (length beta.now) × Fits (level_at matrix.now.level) (2 ^ matrix.now.d) (length work.old) × Fits (level_at matrix.now.level) (2 ^ matrix.now.d) (length second.old) × ((Δ : (K (level_at matrix.now.level)).Carrier) → Multiplies (level_at matrix.now.level) delta Δ → (j : ℕ) → j < matrix.now.n → el (level_at matrix.now.level) scaled.now j ≡ (K (level_at matrix.now.level)).mul Δ (el (level_at matrix.now.level) alpha.now j)) }
+    ensures { (Δ : (K (level_at matrix.now.level)).Carrier) → Multiplies (level_at matrix.now.level) delta Δ → Holds (level_at matrix.now.level) result.words (sum (K (level_at matrix.now.level)) matrix.now.n (λ i. sum (K (level_at matrix.now.level)) matrix.now.n (λ j. (K (level_at matrix.now.level)).mul (leaf (K (level_at matrix.now.level)) (el (level_at matrix.now.level) alpha.now) (small_of (level_at matrix.now.level) matrix.now.x.now) (el (level_at matrix.now.level) beta.now i) j) (value (K (level_at matrix.now.level)) matrix.now.d (bit_of matrix.now.d bits.now i) (element_of (level_at matrix.now.level) matrix.now.d numbers.now i) Δ j)))) }
 {
+    let level = matrix.level;
     let mut all = Element::zero(level);
-    for i in 0..n {
+    for i in 0..matrix.n {
         let weight = elements::get(beta, i, level);
-        let at = d * i;
+        let at = matrix.d * i;
         let share = row(
-            n, d, x, bits, numbers, at, delta, alpha, scaled, weight, work, second, level,
+            matrix, bits, numbers, at, delta, alpha, scaled, weight, work, second,
         );
         all = all.plus(share, level);
     }
@@ -167,12 +164,7 @@ fn all_rows(
 // The sum of the n + m values, each times its element of alpha. The slices from beta on are room: n elements in the first two, 2^d in
 // the others.
 pub fn weighted(
-    n: usize,
-    m: usize,
-    d: usize,
-    h: &[u16],
-    x: &[u16],
-    y: &[u16],
+    key: &Equations<'_>,
     bits: &[u8],
     numbers: &[u16],
     delta: &[u16],
@@ -181,25 +173,26 @@ pub fn weighted(
     scaled: &mut [u16],
     work: &mut [u16],
     second: &mut [u16],
-    level: usize,
 ) -> Element
-    requires lent_key { LentKey (level_at level) n m h.now x.now × Words (level_at level) numbers.now × Words (level_at level) delta.now × Words (level_at level) alpha.now × Bits bits.now × (0 < (level_at level).coordinates) × (1 ≤ d) × (n ≤ 2 ^ d) × LentTarget (level_at level) m y.now }
-    requires bits_len { (length bits.now ≡ d * n) × (length numbers.now ≡ (level_at level).coordinates * (d * n)) × (length delta.now ≡ (level_at level).coordinates) × Fits (level_at level) (n + m) (length alpha.now) × Fits (level_at level) n (length beta.old) × Fits (level_at level) n (length scaled.old) × Fits (level_at level) (2 ^ d) (length work.old) × Fits (level_at level) (2 ^ d) (length second.old) }
-    ensures { Holds (level_at level) result.words (weighted_sum (K (level_at level)) n m (el (level_at level) alpha.now) (column_value (K (level_at level)) n d (entry_of (level_at level) n h.now) (small_of (level_at level) x.now) (small_of (level_at level) y.now) (bit_of d bits.now) (element_of (level_at level) d numbers.now) (el (level_at level) delta.now 0)) (check_value (K (level_at level)) n d (entry_of (level_at level) n h.now) (small_of (level_at level) x.now) (small_of (level_at level) y.now) (bit_of d bits.now) (element_of (level_at level) d numbers.now) (el (level_at level) delta.now 0))) }
+    requires words { Words (level_at key.now.matrix.level) numbers.now × Words (level_at key.now.matrix.level) delta.now × Words (level_at key.now.matrix.level) alpha.now × Bits bits.now × (0 < (level_at key.now.matrix.level).coordinates) × (1 ≤ key.now.matrix.d) }
+    requires bits_len { (length bits.now ≡ key.now.matrix.d * key.now.matrix.n) × (length numbers.now ≡ (level_at key.now.matrix.level).coordinates * (key.now.matrix.d * key.now.matrix.n)) × (length delta.now ≡ (level_at key.now.matrix.level).coordinates) × Fits (level_at key.now.matrix.level) (key.now.matrix.n + key.now.matrix.m) (length alpha.now) × Fits (level_at key.now.matrix.level) key.now.matrix.n (length beta.old) × Fits (level_at key.now.matrix.level) key.now.matrix.n (length scaled.old) × Fits (level_at key.now.matrix.level) (2 ^ key.now.matrix.d) (length work.old) × Fits (level_at key.now.matrix.level) (2 ^ key.now.matrix.d) (length second.old) }
+    ensures { Holds (level_at key.now.matrix.level) result.words (weighted_sum (K (level_at key.now.matrix.level)) key.now.matrix.n key.now.matrix.m (el (level_at key.now.matrix.level) alpha.now) (column_value (K (level_at key.now.matrix.level)) key.now.matrix.n key.now.matrix.d (entry_of (level_at key.now.matrix.level) key.now.matrix.n key.now.matrix.h.now) (small_of (level_at key.now.matrix.level) key.now.matrix.x.now) (small_of (level_at key.now.matrix.level) key.now.y.now) (bit_of key.now.matrix.d bits.now) (element_of (level_at key.now.matrix.level) key.now.matrix.d numbers.now) (el (level_at key.now.matrix.level) delta.now 0)) (check_value (K (level_at key.now.matrix.level)) key.now.matrix.n key.now.matrix.d (entry_of (level_at key.now.matrix.level) key.now.matrix.n key.now.matrix.h.now) (small_of (level_at key.now.matrix.level) key.now.matrix.x.now) (small_of (level_at key.now.matrix.level) key.now.y.now) (bit_of key.now.matrix.d bits.now) (element_of (level_at key.now.matrix.level) key.now.matrix.d numbers.now) (el (level_at key.now.matrix.level) delta.now 0))) }
 {
+    let matrix = &key.matrix;
+    let Matrix { n, m, d, level, .. } = *matrix;
     row::clear(scaled);
     row::clear(work);
     row::clear(second);
     let challenge = elements::get(delta, 0, level);
     let multiples = Multiples::of(challenge, level);
-    leaves::multipliers(beta, h, alpha, n, m, level);
+    leaves::multipliers(beta, matrix.h, alpha, n, m, level);
     scale(scaled, multiples, alpha, n, level);
     let shares = all_rows(
-        n, d, x, bits, numbers, multiples, alpha, scaled, beta, work, second, level,
+        matrix, bits, numbers, multiples, alpha, scaled, beta, work, second,
     );
     let power = products::raised(challenge, d, level);
     let columns = total(alpha, n, level);
-    let checks = sums::mix(alpha, n, 1, 0, y, m, level);
+    let checks = sums::mix(alpha, n, 1, 0, key.y, m, level);
     let tops = columns.plus(checks, level).times(power, level);
     shares.plus(tops, level)
 }

@@ -5,6 +5,7 @@
 ghost use Rattle.std.specs.Prelude.{◌≡◌, length, replicate};
 
 pub mod elements;
+pub mod equations;
 pub mod products;
 pub mod sums;
 

@@ -6,9 +6,10 @@ ghost use Rattle.field.specs.Word.{Words};
 ghost use Rattle.row.specs.Elements.{el, Fits, Within, value_of, Held};
 ghost use Rattle.row.specs.Polynomial.{sum};
 ghost use Rattle.row.specs.Step.{Step, Added, AddedDown, Shared, Topped};
-ghost use Rattle.row.specs.Lent.{LentKey, LentTarget, small_of, entry_of};
+ghost use Rattle.row.specs.Lent.{LentTarget, small_of, entry_of};
 
 use crate::elements;
+use crate::equations::Matrix;
 use field::{Element, Multiples, combination};
 
 // Adds the first n elements of src to those of dst.
@@ -58,20 +59,18 @@ pub fn spread(
 }
 
 // Adds row i's share: src has s elements for each column.
-pub fn share(
-    dst: &mut [u16],
-    src: &[u16],
-    n: usize,
-    m: usize,
-    s: usize,
-    h: &[u16],
-    x: &[u16],
-    i: usize,
-    level: usize,
-)
-    requires { Words (level_at level) dst.old × Words (level_at level) src.now × LentKey (level_at level) n m h.now x.now × (i < n) × Fits (level_at level) (s * n + s * m) (length dst.old) × Fits (level_at level) (s * n) (length src.now) }
-    ensures { Step (level_at level) dst.old dst.new (λ f g. Shared (K (level_at level)) f g n m s (λ j k. el (level_at level) src.now (s * j + k)) (small_of (level_at level) x.now) (λ e. entry_of (level_at level) n h.now e i)) }
+pub fn share(dst: &mut [u16], src: &[u16], s: usize, matrix: &Matrix<'_>, i: usize)
+    requires { Words (level_at matrix.now.level) dst.old × Words (level_at matrix.now.level) src.now × (i < matrix.now.n) × Fits (level_at matrix.now.level) (s * matrix.now.n + s * matrix.now.m) (length dst.old) × Fits (level_at matrix.now.level) (s * matrix.now.n) (length src.now) }
+    ensures { Step (level_at matrix.now.level) dst.old dst.new (λ f g. Shared (K (level_at matrix.now.level)) f g matrix.now.n matrix.now.m s (λ j k. el (level_at matrix.now.level) src.now (s * j + k)) (small_of (level_at matrix.now.level) matrix.now.x.now) (λ e. entry_of (level_at matrix.now.level) matrix.now.n matrix.now.h.now e i)) }
 {
+    let Matrix {
+        n,
+        m,
+        level,
+        h,
+        x,
+        ..
+    } = *matrix;
     let count = s * n;
     add(dst, src, count, level);
     for k in 0..s {

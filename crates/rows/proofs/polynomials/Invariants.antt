@@ -10,4 +10,4 @@ use Rattle.rows.proofs.polynomials.Given as goal
 abbrev pub invariant-loop-i : goal.invariant-loop-i
 invariant-loop-i l =
     Words (level_at l.level) l.dst × Words (level_at l.level) l.work
-    × Rows (K (level_at l.level)) l.n l.m (l.d + 1) (λ i. z (K (level_at l.level)) l.d (digit_of l.d l.positions i) (element_of (level_at l.level) l.d l.offsets i)) (small_of (level_at l.level) l.x) (entry_of (level_at l.level) l.n l.h) (el (level_at l.level) l.dst) l.i
+    × Rows (K (level_at l.level)) l.n l.m (l.d + 1) (λ i. z (K (level_at l.level)) l.d (digit_of l.d l.positions i) (element_of (level_at l.level) l.d l.offsets i)) (small_of (level_at l.level) l.matrix.x.now) (entry_of (level_at l.level) l.n l.matrix.h.now) (el (level_at l.level) l.dst) l.i

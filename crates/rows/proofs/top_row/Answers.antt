@@ -9,13 +9,14 @@ use Rattle.rows.proofs.top_row.Goals as goal
 pub returns : goal.returns
 returns c =
     let a = c.args in
-    let l = level_at a.level in
+    let matrix = a.matrix.now in
+    let l = level_at matrix.level in
     let t = c.top_tree.ensures in
     let r = c.share.ensures in (
       record {
         same = r.same;
         words = r.words;
-        holds = λ v. shared_same (K l) _ _ a.n a.m 1 _ (λ j k. z (K l) a.d (digit a.d a.position) v j a.d) (small_of l a.x.now) (λ e. entry_of l a.n a.h.now e a.i) (λ j q k b. ap (el l c.top_tree.new.buf) (place_one j k b) ∙ t.holds v j (omega (arith, c.requires.d_bound.1))) r.holds;
+        holds = λ v. shared_same (K l) _ _ matrix.n matrix.m 1 _ (λ j k. z (K l) matrix.d (digit matrix.d a.position) v j matrix.d) (small_of l matrix.x.now) (λ e. entry_of l matrix.n matrix.h.now e a.i) (λ j q k b. ap (el l c.top_tree.new.buf) (place_one j k b) ∙ t.holds v j (omega (arith, matrix.columns))) r.holds;
       },
       t.words,
     )

@@ -10,14 +10,15 @@ use Rattle.rows.proofs.value_row.Goals as goal
 pub returns : goal.returns
 returns c =
     let a = c.args in
-    let l = level_at a.level in
+    let matrix = a.matrix.now in
+    let l = level_at matrix.level in
     let t = c.value_tree.ensures in
     let r = c.share.ensures in
-    let v = value (K l) a.d (λ e. odd (get_or a.bits.now (a.at + e) 0)) (λ e. el l a.numbers.now (a.at + e)) (value_of l a.delta.words) in (
+    let v = value (K l) matrix.d (λ e. odd (get_or a.bits.now (a.at + e) 0)) (λ e. el l a.numbers.now (a.at + e)) (value_of l a.delta.words) in (
       record {
         same = r.same;
         words = r.words;
-        holds = shared_same (K l) _ _ a.n a.m 1 _ (λ j k. v j) (small_of l a.x.now) (λ e. entry_of l a.n a.h.now e a.i) (λ j q k b. ap (el l c.value_tree.new.buf) (place_one j k b) ∙ t.holds j (omega (arith, c.requires.n_bound.0))) r.holds;
+        holds = shared_same (K l) _ _ matrix.n matrix.m 1 _ (λ j k. v j) (small_of l matrix.x.now) (λ e. entry_of l matrix.n matrix.h.now e a.i) (λ j q k b. ap (el l c.value_tree.new.buf) (place_one j k b) ∙ t.holds j (omega (arith, matrix.columns))) r.holds;
       },
       t.words,
     )

@@ -19,43 +19,46 @@ sum-mixed l ws src x n m s k h = subst (λ f. Holds l ws (sum (K l) n f)) (λ t 
 pub spread-requires : goal.spread-requires
 spread-requires c =
     let a = c.args in
-    let l = level_at a.level in
+    let matrix = a.matrix.now in
+    let l = level_at matrix.level in
     let r = c.loop-k in
-    let key = c.requires.2 in (
+    let key = matrix.lent in (
       r.invariant.words,
       holds-held l c.mix-total.result.words _ c.mix-total.ensures,
       key.h-within,
       omega (arith, key.h-length),
-      c.requires.3,
+      c.requires.2,
       omega arith,
-      fits_le l (a.s * a.n + a.s * a.m) (a.s * a.n + a.s * a.m) (omega arith) (r.invariant.same ∙ c.add.ensures.same) c.requires.4,
+      fits_le l (a.s * matrix.n + a.s * matrix.m) (a.s * matrix.n + a.s * matrix.m) (omega arith) (r.invariant.same ∙ c.add.ensures.same) c.requires.3,
     )
 
 pub loop-k-preserved : goal.loop-k-preserved
 loop-k-preserved c =
     let a = c.args in
-    let l = level_at a.level in
+    let matrix = a.matrix.now in
+    let l = level_at matrix.level in
     let r = c.loop-k in
-    let x = small_of l a.x.now in
-    let h = λ (e : ℕ). entry_of l a.n a.h.now e a.i in
-    let total = sum-mixed l c.mix-total.result.words a.src.now a.x.now a.n a.m a.s r.k h c.mix-total.ensures in
-    let down = subst (λ v. AddedDown (K l) (el l r.dst) (el l c.spread.new.dst) (a.s * a.n) a.s r.k (λ e. (K l).mul (h e) v) a.m) (holds-value l c.mix-total.result.words _ total) c.spread.ensures.holds in
+    let x = small_of l matrix.x.now in
+    let h = λ (e : ℕ). entry_of l matrix.n matrix.h.now e a.i in
+    let total = sum-mixed l c.mix-total.result.words a.src.now matrix.x.now matrix.n matrix.m a.s r.k h c.mix-total.ensures in
+    let down = subst (λ v. AddedDown (K l) (el l r.dst) (el l c.spread.new.dst) (a.s * matrix.n) a.s r.k (λ e. (K l).mul (h e) v) matrix.m) (holds-value l c.mix-total.result.words _ total) c.spread.ensures.holds in
     record {
       same = c.spread.ensures.same ∙ r.invariant.same;
       words = c.spread.ensures.words;
-      holds = checked_more (K l) a.n a.m a.s (el l a.src.now) x h _ _ _ r.k (omega arith) r.invariant.holds down;
+      holds = checked_more (K l) matrix.n matrix.m a.s (el l a.src.now) x h _ _ _ r.k (omega arith) r.invariant.holds down;
     }
 
 pub returns : goal.returns
 returns c =
     let a = c.args in
-    let l = level_at a.level in
+    let matrix = a.matrix.now in
+    let l = level_at matrix.level in
     let r = c.loop-k in
-    let x = small_of l a.x.now in
-    let h = λ (e : ℕ). entry_of l a.n a.h.now e a.i in
+    let x = small_of l matrix.x.now in
+    let h = λ (e : ℕ). entry_of l matrix.n matrix.h.now e a.i in
     let done : r.k ≡ a.s = omega arith in
     record {
       same = r.invariant.same ∙ c.add.ensures.same;
       words = r.invariant.words;
-      holds = checked-all (K l) a.n a.m a.s (el l a.src.now) x h _ _ _ c.add.ensures.holds (subst (Checked (K l) a.n a.m a.s (el l a.src.now) x h (el l c.add.new.dst) (el l r.dst)) done r.invariant.holds);
+      holds = checked-all (K l) matrix.n matrix.m a.s (el l a.src.now) x h _ _ _ c.add.ensures.holds (subst (Checked (K l) matrix.n matrix.m a.s (el l a.src.now) x h (el l c.add.new.dst) (el l r.dst)) done r.invariant.holds);
     }

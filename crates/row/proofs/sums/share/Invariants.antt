@@ -7,4 +7,4 @@ use Rattle.row.proofs.sums.share.Given as goal
 
 abbrev pub invariant-loop-k : goal.invariant-loop-k
 invariant-loop-k l =
-    Step (level_at l.level) l.initial.dst l.dst (λ f g. Checked (K (level_at l.level)) l.n l.m l.s (el (level_at l.level) l.src) (small_of (level_at l.level) l.x) (λ e. entry_of (level_at l.level) l.n l.h e l.i) f g l.k)
+    Step (level_at l.matrix.level) l.initial.dst l.dst (λ f g. Checked (K (level_at l.matrix.level)) l.matrix.n l.matrix.m l.s (el (level_at l.matrix.level) l.src) (small_of (level_at l.matrix.level) l.matrix.x.now) (λ e. entry_of (level_at l.matrix.level) l.matrix.n l.matrix.h.now e l.i) f g l.k)

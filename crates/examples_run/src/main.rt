@@ -6,7 +6,7 @@ use key::{Key, Lent};
 use refusal::{Answer, Refusal, Verdict};
 use std::{fmt, io};
 
-// The coordinates of an element.
+// How many coordinates an element has.
 const COORDINATES: usize = 12;
 
 // Numbers, each after a space.
@@ -20,7 +20,7 @@ struct Elements<'a> {
     degree: u8,
 }
 
-// The coordinates of an element.
+// An element, after a space.
 #[derive(Clone, Copy)]
 struct Coordinates<'a>(&'a [u16]);
 

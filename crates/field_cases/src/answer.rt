@@ -67,6 +67,11 @@ fn term(i: u16, word: u16, level: usize) -> Result<Element, Refused> {
     Ok(Element::load(&s, 0, level))
 }
 
+// The product, by the table of multiples of a.
+fn by_multiples(a: Element, b: Element, level: usize) -> Element {
+    Multiples::of(a, level).times(b, level)
+}
+
 // No words.
 fn of_none(s: &[u16], x: Element) -> Result<Answer, Refused> {
     let [] = s else { return Err(Refused) };
@@ -136,7 +141,7 @@ fn product(s: &[u16], level: usize) -> Result<Answer, Refused> {
 // Three elements. The product of the first two is used as it is, without being stored and loaded.
 fn chain(s: &[u16], level: usize) -> Result<Answer, Refused> {
     let [a, b, other] = elements::<3>(s, level)?;
-    Ok(Answer::Element(Multiples::of(a.times(b, level), level).times(other, level)))
+    Ok(Answer::Element(by_multiples(a.times(b, level), other, level)))
 }
 
 fn differs(s: &[u16], level: usize) -> Result<Answer, Refused> {
@@ -150,11 +155,7 @@ impl Answer {
         match operation {
             Operation::Plus => of_two(s, level, |a, b| a.plus(b, level)),
             Operation::Times => of_two(s, level, |a, b| a.times(b, level)),
-            Operation::Multiples => of_two(
-                s,
-                level,
-                |a, b| Multiples::of(a, level).times(b, level),
-            ),
+            Operation::Multiples => of_two(s, level, |a, b| by_multiples(a, b, level)),
             Operation::Scaled => scaled(s, level),
             Operation::Masked => masked(s, level),
             Operation::Combination => combined(s, level),
@@ -165,11 +166,7 @@ impl Answer {
             Operation::Product => product(s, level),
             Operation::Excess => Ok(truth(field::excess(s, level))),
             Operation::TermTimes => of_terms(s, level, |a, b| a.times(b, level)),
-            Operation::TermMultiples => of_terms(
-                s,
-                level,
-                |a, b| Multiples::of(a, level).times(b, level),
-            ),
+            Operation::TermMultiples => of_terms(s, level, |a, b| by_multiples(a, b, level)),
             Operation::Chain => chain(s, level),
             Operation::Differs => differs(s, level),
         }

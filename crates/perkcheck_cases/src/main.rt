@@ -6,6 +6,7 @@ use std::io::Read;
 use std::rt::{Env, Files};
 use std::{fs, io, str};
 
+// What the main of perkcheck does, at any input: programs share no code but by a library, and four lines make none.
 fn print_line(rt: &impl Print, input: &mut impl Read) -> io::Result<()> {
     let mut file = [0u8; 32768];
     let len = reading::read_full(input, &mut file);

@@ -1,59 +1,45 @@
 // The entry rank: for an office that tests a key before it uses it.
 #![tactic(auto)]
 
-ghost use Rattle.std.specs.Prelude.{◌≡◌, ℕ};
+ghost use Rattle.std.specs.Prelude.{◌≡◌, ℕ, Ok};
 ghost use Rattle.refusal.specs.Answer.{first_of};
 ghost use Rattle.field.specs.Level.{FIRST, level_at};
-ghost use Rattle.rank.specs.declared.Ranked.TheVariants.{Rank};
 ghost use Rattle.rank.specs.Entry.{number_of, rank_rows, rank_outcome, Tells};
 
 use field::FIRST;
 use key::Key;
 use refusal::{Answer, Refusal};
 
-// What rank answers.
-#[derive(Clone, Copy)]
-pub enum Ranked {
-    Rank(usize),
-    Refused(Refusal),
-}
-
 // The answer's number: 0 for a rank, else the refusal's.
-pub fn number(answer: Ranked) -> u32
+pub fn number(answer: Result<usize, Refusal>) -> u32
     ensures { result ≡ number_of answer }
 {
     match answer {
-        Ranked::Rank(_) => 0,
-        Ranked::Refused(refusal) => refusal.number,
+        Ok(_) => 0,
+        Err(refusal) => refusal.number(),
     }
 }
 
-// The first refusal that applies, or Done.
+// The first refusal that applies; Ok where none does.
 fn refused(key: Key, h: &[u16], matrix: &[u16]) -> Answer
     ensures { result ≡ first_of (rank_rows (level_at FIRST) key h.now matrix.now) }
 {
-    let sizes = key.sizes(FIRST);
-    if let Answer::Refused(_) = sizes {
-        return sizes;
-    }
+    key.sizes(FIRST)?;
     let len = key.lengths(FIRST).matrix;
-    if (h.len() ^ len) | (matrix.len() ^ len) != 0 {
-        return Answer::Refused(Refusal::SLICE_LENGTH);
+    if h.len() != len || matrix.len() != len {
+        return Err(Refusal::SliceLength);
     }
     if field::excess(h, FIRST) != 0 {
-        Answer::Refused(Refusal::KEY_ELEMENT)
-    } else {
-        Answer::Done
+        return Err(Refusal::KeyElement);
     }
+    Ok(())
 }
 
 // The rank of H; the matrix then holds the cleared form.
-pub fn rank(key: Key, h: &[u16], matrix: &mut [u16]) -> Ranked
+pub fn rank(key: Key, h: &[u16], matrix: &mut [u16]) -> Result<usize, Refusal>
     ensures outcome { (result, matrix.new) ≡ rank_outcome (level_at FIRST) key h.now matrix.old }
-    ensures tells { (k : ℕ) → result ≡ Rank k → Tells (level_at FIRST) key h.now k }
+    ensures tells { (k : ℕ) → result ≡ Ok k → Tells (level_at FIRST) key h.now k }
 {
-    match refused(key, h, matrix) {
-        Answer::Done => Ranked::Rank(elimination::rank(h, matrix, key.n, key.m, FIRST)),
-        Answer::Refused(refusal) => Ranked::Refused(refusal),
-    }
+    refused(key, h, matrix)?;
+    Ok(elimination::rank(h, matrix, key.n, key.m, FIRST))
 }

@@ -8,3 +8,4 @@ pub mod Order
 pub mod Slices
 pub mod Truth
 pub mod Entry
+pub mod Lends

@@ -13,10 +13,12 @@ ghost use Rattle.key.specs.Key.{Sized, KeySlices, slices_of, lengths};
 ghost use Rattle.constraints.specs.Entry.{constraints_lent, constraints_rows, constraints_outcome, constraints_leans, values_lent, values_rows, values_outcome, values_leans, system};
 ghost use Rattle.constraints.specs.Slices.{masked_bytes, polynomial_words, value_words, witness_of};
 ghost use Rattle.constraints.specs.Truth.{Truth};
+ghost use Rattle.constraints.specs.Lends.{Lends};
 
 use field::FIRST;
 use key::{Code, Key, Lent};
 use refusal::{Answer, Refusal};
+use row::equations::{Equations, Matrix};
 
 // Words of work space, at the widest level: d + 1 coefficients, or one value, for each of 2^d columns.
 const POLYNOMIALS: usize = 5376;
@@ -95,6 +97,22 @@ fn values_refused(lent: &Lent<'_>, t: &[u8], q: &[u16], delta: &[u16], p: &[u16]
     key::material(key::over(t, 1), coordinates, Code::COLUMN)
 }
 
+// The key's equations, as the work on rows is lent them.
+pub fn equations<'a>(lent: &Lent<'a>) -> Equations<'a>
+    requires { Sized (level_at FIRST) lent.now.key × LentKey (level_at FIRST) lent.now.key.n lent.now.key.m lent.now.h.now lent.now.x.now × LentTarget (level_at FIRST) lent.now.key.m lent.now.y.now }
+    ensures { Lends result lent.now }
+{
+    let matrix = Matrix {
+        n: lent.key.n,
+        m: lent.key.m,
+        d: lent.key.degree(),
+        level: FIRST,
+        h: lent.h,
+        x: lent.x,
+    };
+    Equations { matrix, y: lent.y }
+}
+
 // Writes the masked witness.
 pub fn write_masked_witness(key: Key, positions: &[u8], u: &[u8], t: &mut [u8])
     requires sized { Sized (level_at FIRST) key × Bits u.now }
@@ -111,22 +129,8 @@ fn write_polynomials(lent: &Lent<'_>, positions: &[u8], v: &[u16], p: &mut [u16]
     requires positions_len { (length positions.now ≡ (lengths (level_at FIRST) lent.now.key).positions) × (length v.now ≡ (lengths (level_at FIRST) lent.now.key).elements) × (length p.old ≡ (lengths (level_at FIRST) lent.now.key).polynomials) }
     ensures { p.new ≡ polynomial_words (level_at FIRST) (system (level_at FIRST) lent.now.key (slices_of lent.now)) (witness_of lent.now.key.n positions.now) v.now }
 {
-    let n = lent.key.n;
-    let m = lent.key.m;
     let mut work = [0u16; POLYNOMIALS];
-    rows::polynomials(
-        p,
-        n,
-        m,
-        lent.key.degree(),
-        lent.h,
-        lent.x,
-        lent.y,
-        positions,
-        v,
-        &mut work,
-        FIRST,
-    );
+    rows::polynomials(p, &equations(lent), positions, v, &mut work);
 }
 
 // Writes t, the masked witness, and all polynomials, polynomial 0 first.
@@ -154,23 +158,8 @@ fn write_values(lent: &Lent<'_>, t: &[u8], q: &[u16], delta: &[u16], p: &mut [u1
     requires t_len { (length t.now ≡ (lengths (level_at FIRST) lent.now.key).bits) × (length q.now ≡ (lengths (level_at FIRST) lent.now.key).elements) × (length delta.now ≡ (lengths (level_at FIRST) lent.now.key).one) × (length p.old ≡ (lengths (level_at FIRST) lent.now.key).values) }
     ensures { p.new ≡ value_words (level_at FIRST) (system (level_at FIRST) lent.now.key (slices_of lent.now)) t.now q.now delta.now }
 {
-    let n = lent.key.n;
-    let m = lent.key.m;
     let mut work = [0u16; VALUES];
-    rows::values(
-        p,
-        n,
-        m,
-        lent.key.degree(),
-        lent.h,
-        lent.x,
-        lent.y,
-        t,
-        q,
-        delta,
-        &mut work,
-        FIRST,
-    );
+    rows::values(p, &equations(lent), t, q, delta, &mut work);
 }
 
 // Writes the n + m values.

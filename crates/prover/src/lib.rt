@@ -82,21 +82,8 @@ fn tops(lent: &Lent<'_>, positions: &[u8], p: &mut [u16], work: &mut [u16]) -> u
     requires positions_len { (length positions.now ≡ (lengths (level_at FIRST) lent.now.key).positions) × (length p.old ≡ 1524) × (length work.old ≡ 5376) }
     ensures { (v : List ℕ) → eqb result 0 ≡ tops_zero (level_at FIRST) (system (level_at FIRST) lent.now.key (slices_of lent.now)) (witness_of lent.now.key.n positions.now) v }
 {
-    let n = lent.key.n;
-    let m = lent.key.m;
-    rows::tops(
-        p,
-        n,
-        m,
-        lent.key.degree(),
-        lent.h,
-        lent.x,
-        lent.y,
-        positions,
-        work,
-        FIRST,
-    );
-    checkzero::nonzero(p, n + m, FIRST)
+    rows::tops(p, &constraints::equations(lent), positions, work);
+    checkzero::nonzero(p, lent.key.n + lent.key.m, FIRST)
 }
 
 // Where all tops are zero, writes t and a; otherwise refuses with 8. p is room for n + m elements, work for (d + 1) 2^d.
@@ -121,12 +108,8 @@ fn weigh(
         return Err(Refusal::Top);
     }
     constraints::write_masked_witness(lent.key, positions, u, t);
-    let n = lent.key.n;
-    let m = lent.key.m;
-    let d = lent.key.degree();
-    checkzero::proof(
-        a, n, m, d, lent.h, lent.x, positions, v, alpha, r, s, p, work, FIRST,
-    );
+    let matrix = constraints::equations(lent).matrix;
+    checkzero::proof(a, &matrix, positions, v, alpha, r, s, p, work);
     Ok(())
 }
 

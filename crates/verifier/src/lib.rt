@@ -89,11 +89,10 @@ fn difference(
     requires beta_len { (length beta.old ≡ 768) × (length scaled.old ≡ 768) × (length columns.old ≡ 768) × (length second.old ≡ 768) }
     ensures { eqb result 0 ≡ accepts (level_at FIRST) (system (level_at FIRST) lent.now.key (slices_of lent.now)) t.now q.now delta.now masks.now alpha.now a.now }
 {
-    let n = lent.key.n;
-    let m = lent.key.m;
-    let d = lent.key.degree();
+    let key = constraints::equations(lent);
+    let d = key.matrix.d;
     let values = values::weighted(
-        n, m, d, lent.h, lent.x, lent.y, t, q, delta, alpha, beta, scaled, columns, second, FIRST,
+        &key, t, q, delta, alpha, beta, scaled, columns, second,
     );
     let challenge = elements::get(delta, 0, FIRST);
     let expected = values.plus(checkzero::mask_sum(masks, challenge, d - 1, FIRST), FIRST);

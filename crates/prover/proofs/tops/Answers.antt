@@ -5,11 +5,15 @@ use lib.ListN.{length}
 use Rattle.field.specs.Level.{FIRST, level_at}
 use Rattle.field.proofs.Fields.{bounded}
 use Rattle.row.specs.Elements.{el, Fits}
-use Rattle.row.specs.Lent.{LentKey, LentTarget}
+use Rattle.row.specs.Step.{Step}
+use Rattle.row.specs.declared.equations.Equations.{Equations}
 use Rattle.row.proofs.ElementLaws.{fits_le}
 use Rattle.row.proofs.NumberLaws.{many}
 use Rattle.rows.specs.Outcome.{Tops}
 use Rattle.key.specs.declared.Key.{Key}
+use Rattle.key.specs.declared.Lent.{Lent}
+use Rattle.constraints.specs.Lends.{Lends}
+use mathlib.Core.List.{List}
 use Rattle.key.specs.Key.{slices_of, degree, Sized}
 use Rattle.constraints.proofs.Fine.{room}
 use Rattle.prover.proofs.Fine.{elements-room}
@@ -20,33 +24,31 @@ use Rattle.prover.proofs.tops.Goals as goal
 elements : (key : Key) → Sized (level_at FIRST) key → {k : ℕ} → k ≡ 1524 → Fits (level_at FIRST) (key.n + key.m) k
 elements key s e = fits_le (level_at FIRST) (key.n + key.m) (key.n + key.m) (omega arith) e (elements-room key s)
 
-pub degree-requires : goal.degree-requires
-degree-requires c = (room c.args.lent.now.key c.requires.sized.0).some
-
 pub tops-requires : goal.tops-requires
 tops-requires c =
-    let a = c.args in
-    let r = room a.lent.now.key c.requires.sized.0 in
-    subst (λ d. LentKey (level_at FIRST) a.lent.now.key.n a.lent.now.key.m a.lent.now.h.now a.lent.now.x.now × (d < 64) × (a.lent.now.key.n ≤ 2 ^ d) × (length a.positions.now ≡ a.lent.now.key.n) × Fits (level_at FIRST) (a.lent.now.key.n + a.lent.now.key.m) (length a.p.now) × Fits (level_at FIRST) (2 ^ d) (length a.work.now) × LentTarget (level_at FIRST) a.lent.now.key.m a.lent.now.y.now) (sym c.degree.ensures)
-    (c.requires.sized.1, r.d-lt, r.columns, c.requires.positions_len.0, elements a.lent.now.key c.requires.sized.0 c.requires.positions_len.1, fits_le (level_at FIRST) (2 ^ degree a.lent.now.key.n) ((degree a.lent.now.key.n + 1) * 2 ^ degree a.lent.now.key.n) (many (degree a.lent.now.key.n) (2 ^ degree a.lent.now.key.n)) c.requires.positions_len.2 r.polynomials, c.requires.sized.2)
+    let n = c.args.lent.now.key.n in
+    let s = c.requires.sized.0 in
+    let r = room c.args.lent.now.key s in
+    let e = c.equations.ensures in
+    rw (e.level, e.d, e.n, e.m) (r.d-lt, c.requires.positions_len.0, elements c.args.lent.now.key s c.requires.positions_len.1, fits_le (level_at FIRST) (2 ^ degree n) ((degree n + 1) * 2 ^ degree n) (many (degree n) (2 ^ degree n)) c.requires.positions_len.2 r.polynomials)
 
-pub overflow_add-n : goal.overflow_add-n
-overflow_add-n c = let s = c.requires.sized.0 in omega (arith, s.most, s.fewer, (bounded FIRST).most)
+pub overflow_add-lent : goal.overflow_add-lent
+overflow_add-lent c = let s = c.requires.sized.0 in omega (arith, s.most, s.fewer, (bounded FIRST).most)
+
+-- what is written, in the key's own numbers
+written : {equations : Equations} {lent : Lent} (e : Lends equations lent) (positions p q : List ℕ)
+    → Step (level_at equations.matrix.level) p q (λ f g. (v : List ℕ) → Tops (level_at equations.matrix.level) equations.matrix.n equations.matrix.m equations.matrix.d equations.matrix.h.now equations.matrix.x.now equations.y.now positions v g)
+    → Step (level_at FIRST) p q (λ f g. (v : List ℕ) → Tops (level_at FIRST) lent.key.n lent.key.m (degree lent.key.n) lent.h.now lent.x.now lent.y.now positions v g)
+written e positions p q w = coe 0 1 (i. Step (level_at (e.level i)) p q (λ f g. (v : List ℕ) → Tops (level_at (e.level i)) (e.n i) (e.m i) (e.d i) (e.h i) (e.x i) (e.y i) positions v g)) w
 
 pub nonzero-requires : goal.nonzero-requires
 nonzero-requires c =
-    let t = c.tops.ensures in
-    (t.words, fits_le (level_at FIRST) _ (c.args.lent.now.key.n + c.args.lent.now.key.m) (omega (arith, c.requires.sized.0.two)) t.same (elements c.args.lent.now.key c.requires.sized.0 c.requires.positions_len.1))
-
-pub shape_of-p : goal.shape_of-p
-shape_of-p c = c.tops.ensures.same
-
-pub shape_of-work : goal.shape_of-work
-shape_of-work c = c.tops.auto.work
+    let key = c.args.lent.now.key in
+    let w = written c.equations.ensures c.args.positions.now c.args.p.now c.tops.new.dst c.tops.ensures in
+    (w.words, fits_le (level_at FIRST) _ (key.n + key.m) (omega (arith, c.requires.sized.0.two)) w.same (elements key c.requires.sized.0 c.requires.positions_len.1))
 
 pub returns : goal.returns
 returns c v =
     let a = c.args in
-    let t = c.tops in
-    let o : Tops (level_at FIRST) a.lent.now.key.n a.lent.now.key.m (degree a.lent.now.key.n) a.lent.now.h.now a.lent.now.x.now a.lent.now.y.now a.positions.now v (el (level_at FIRST) t.new.dst) = subst (λ d. Tops (level_at FIRST) a.lent.now.key.n a.lent.now.key.m d a.lent.now.h.now a.lent.now.x.now a.lent.now.y.now a.positions.now v (el (level_at FIRST) t.new.dst)) c.degree.ensures (t.ensures.holds v) in
-    c.nonzero.ensures ∙ tops-same (level_at FIRST) a.lent.now.key.n a.lent.now.key.m (slices_of a.lent.now) a.positions.now v t.new.dst o.columns o.checks
+    let o = (written c.equations.ensures a.positions.now a.p.now c.tops.new.dst c.tops.ensures).holds v in
+    c.nonzero.ensures ∙ tops-same (level_at FIRST) a.lent.now.key.n a.lent.now.key.m (slices_of a.lent.now) a.positions.now v c.tops.new.dst o.columns o.checks

@@ -42,8 +42,10 @@ write_masked_witness-requires c =
     let f = passed_fine FIRST c.args.lent.now.key (slices_of c.args.lent.now) c.args.positions.now c.args.u.now c.args.v.now c.args.r.now c.args.s.now c.args.alpha.now c.args.t.now c.args.a.now c.requires.a_value in
     record { sized = (f.is-sized, f.u-bits); positions_len = (f.positions-length, f.u-length, f.t-length) }
 
-pub degree-d-requires : goal.degree-d-requires
-degree-d-requires c = omega (arith, (passed_fine FIRST c.args.lent.now.key (slices_of c.args.lent.now) c.args.positions.now c.args.u.now c.args.v.now c.args.r.now c.args.s.now c.args.alpha.now c.args.t.now c.args.a.now c.requires.a_value).is-sized.two)
+pub equations-requires : goal.equations-requires
+equations-requires c =
+    let f = passed_fine FIRST c.args.lent.now.key (slices_of c.args.lent.now) c.args.positions.now c.args.u.now c.args.v.now c.args.r.now c.args.s.now c.args.alpha.now c.args.t.now c.args.a.now c.requires.a_value in
+    (f.is-sized, f.is_key, f.is-target)
 
 pub proof-requires : goal.proof-requires
 proof-requires c =
@@ -54,12 +56,11 @@ proof-requires c =
     let r = room a.lent.now.key f.is-sized in
     let z = (bounded FIRST).coordinates in
     let t = c.tops in
-    let d : (P : ℕ → Type 0) → P (degree n) → P c.degree-d.result = λ P x. subst P (sym c.degree-d.ensures) x in
+    let e = c.equations.ensures in
     record {
-      lent_key = (f.is_key, f.v-words, f.α-words, f.r-words, f.s-words);
-      coordinates_nonzero = d (λ d. (0 < (level_at FIRST).coordinates) × (1 ≤ d) × (d < 64) × (n ≤ 2 ^ d) × (length a.positions.now ≡ n) × (length a.v.now ≡ (level_at FIRST).coordinates * (d * n)) × (length a.a.now ≡ (level_at FIRST).coordinates * d))
-          (z, degree-some n f.is-sized.two (omega (arith, f.is-sized.most, (bounded FIRST).most)), r.d-lt, r.columns, f.positions-length, f.v-length ∙ elements-columns FIRST a.lent.now.key, f.a-length);
-      fits = d (λ d. Fits (level_at FIRST) (n + m) (length a.alpha.now) × Fits (level_at FIRST) (d - 1) (length a.r.now) × Fits (level_at FIRST) (d - 1) (length a.s.now) × Fits (level_at FIRST) n (length t.new.p) × Fits (level_at FIRST) ((d + 1) * 2 ^ d) (length t.new.work)) (
+      words = rw e.level (f.v-words, f.α-words, f.r-words, f.s-words);
+      coordinates_nonzero = rw (e.level, e.d, e.n) (z, degree-some n f.is-sized.two (omega (arith, f.is-sized.most, (bounded FIRST).most)), r.d-lt, f.positions-length, f.v-length ∙ elements-columns FIRST a.lent.now.key, f.a-length);
+      fits = rw (e.level, e.d, e.n, e.m) (
         fits_all (level_at FIRST) (n + m) z f.α-length,
         fits_all (level_at FIRST) (degree n - 1) z f.r-length,
         fits_all (level_at FIRST) (degree n - 1) z f.s-length,
@@ -73,8 +74,9 @@ returns c =
     let a = c.args in
     let n = a.lent.now.key.n in
     let m = a.lent.now.key.m in
+    let e = c.equations.ensures in
     when_done (tops_row (level_at FIRST) a.lent.now.key (slices_of a.lent.now) a.positions.now a.v.now) (prove_result (level_at FIRST) a.lent.now.key (slices_of a.lent.now) a.positions.now a.u.now a.v.now a.r.now a.s.now a.alpha.now) (a.t.now, a.a.now) (sym (pass Top [] (fine (c.tops.ensures c.args.v.now) c.if-tops-ne0.false))) refl
     (ap₂ (λ (t a : List ℕ). (t, a)) (c.write_masked_witness.ensures (slices_of a.lent.now))
     (c.proof.ensures a.lent.now.y.now
-    ∙ ap (λ d. concat d (λ k. words (level_at FIRST) ((K (level_at FIRST)).add (weighted_at (level_at FIRST) n m d a.lent.now.h.now a.lent.now.x.now a.lent.now.y.now a.positions.now a.v.now a.alpha.now k) (mask (K (level_at FIRST)) (d - 1) (el (level_at FIRST) a.r.now) (el (level_at FIRST) a.s.now) k)))) c.degree-d.ensures
+    ∙ (λ i. concat (e.d i) (λ k. words (level_at (e.level i)) ((K (level_at (e.level i))).add (weighted_at (level_at (e.level i)) (e.n i) (e.m i) (e.d i) (e.h i) (e.x i) a.lent.now.y.now a.positions.now a.v.now a.alpha.now k) (mask (K (level_at (e.level i))) (e.d i - 1) (el (level_at (e.level i)) a.r.now) (el (level_at (e.level i)) a.s.now) k))))
     ∙ proof-same (level_at FIRST) n m (slices_of a.lent.now) a.positions.now a.v.now a.r.now a.s.now a.alpha.now))

@@ -91,9 +91,7 @@ fn difference(
 {
     let key = constraints::equations(lent);
     let d = key.matrix.d;
-    let values = values::weighted(
-        &key, t, q, delta, alpha, beta, scaled, columns, second,
-    );
+    let values = values::weighted(&key, t, q, delta, alpha, beta, scaled, columns, second);
     let challenge = elements::get(delta, 0, FIRST);
     let expected = values.plus(checkzero::mask_sum(masks, challenge, d - 1, FIRST), FIRST);
     let given = checkzero::evaluate(a, challenge, d, FIRST);

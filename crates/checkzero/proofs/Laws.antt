@@ -95,15 +95,6 @@ module _ (R : Ring) where
         step : (i : ℕ) → Δ ⊗ (a (suc j + i) ⊗ pow R Δ i) ≡ a (j + suc i) ⊗ (Δ ⊗ pow R Δ i)
         step i = inner Δ (a (suc j + i)) (pow R Δ i) ∙ ap (λ k. a k ⊗ (Δ ⊗ pow R Δ i)) (next i)
 
-    pub above-all : (n : ℕ) → above n 0 ≡ sigma R n (λ i. a i ⊗ pow R Δ i)
-    above-all n = λ t. sigma R (all t) (λ i. a (same i t) ⊗ pow R Δ i)
-      where
-        all : n - 0 ≡ n
-        all = omega arith
-
-        same : (i : ℕ) → 0 + i ≡ i
-        same i = omega arith
-
   -- the power and the mask sum, from one mask to the next
   module _ (Δ : Carrier) where
     pub pow-none : 𝟙 ≡ pow R Δ 0

@@ -72,9 +72,6 @@ module _ (R : Ring) where
   unfolding joined
   joined_cong s w v P P₁ Q Q₁ h l k = ap₂ (λ A B. times R (not w) v A k ⊕ times R w v B k) (cut_cong R s P P₁ h) (cut_cong R s Q Q₁ l)
 
-  pub halved_none : (f : ℕ → Carrier) (n h s : ℕ) (w : Bool) (v : Carrier) → Halved R f f n h s w v 0
-  halved_none f n h s w v = record { low = λ q l. absurd (omega arith); ahead = λ q l k o. refl }
-
   pub halved_more : (f g g₁ : ℕ → Carrier) (n h s : ℕ) (w : Bool) (v : Carrier) (p : ℕ) → s < n → p < h
       → Halved R f g n h s w v p → Joined R g g₁ (n * p) (n * (p + h)) s w v (s + 1) → Halved R f g₁ n h s w v (p + 1)
   halved_more f g g₁ n h s w v p sn ph l t = record {

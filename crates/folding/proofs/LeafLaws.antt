@@ -24,9 +24,6 @@ module _ (R : Ring) where
   multiplier_more n e H α i = sum_more R e (λ k. H k i ⊗ α (n + k))
 
   module _ (stride from n : ℕ) (α x : ℕ → Carrier) (β : Carrier) where
-    pub leaves_none : (g : ℕ → Carrier) → Leaves R g stride from 0 n α x β
-    leaves_none g = record { inside = λ j h. absurd (omega arith); outside = λ j h. absurd (omega arith) }
-
     pub leaves_more : (g g₁ : ℕ → Carrier) (j : ℕ) (v : Carrier) → 0 < stride → Leaves R g stride from j n α x β → Put g g₁ (stride * j) v → (from + j < n → v ≡ leaf R α x β (from + j)) → (n ≤ from + j → v ≡ 𝟘) → Leaves R g₁ stride from (j + 1) n α x β
     leaves_more g g₁ j v h t p a b = record {
       inside = below_more (λ i. from + i < n → g₁ (stride * i) ≡ leaf R α x β (from + i)) j (λ i l m. away i l ∙ t.inside i l m) (λ m. p.here ∙ a m);

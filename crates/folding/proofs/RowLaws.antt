@@ -1,5 +1,5 @@
 -- The columns of one row, weights times values, folded a digit at a time.
-use mathlib.Core.Path.{◌≡◌, refl, sym, ◌∙◌, ap, ap₂, subst, subst₂}
+use mathlib.Core.Path.{◌≡◌, sym, ◌∙◌, ap, ap₂, subst, subst₂}
 use mathlib.Core.Bool.{Bool, not}
 use Prim.Native.Nat.{ℕ, zero, suc, ◌+◌, ◌-◌, ◌*◌, ◌^◌, ◌≤◌, ◌<◌}
 use native.Mathlib.Decide.{dec_lt}
@@ -39,9 +39,6 @@ module _ (R : Ring) where
 
   infixl 60 ◌⊕◌
   infixl 70 ◌⊗◌
-  pub folded-none : (f : ℕ → Carrier) (h : ℕ) (y : Carrier) (c : ℕ → Carrier) → Folded R f f h y c 0
-  folded-none f h y c = record { low = λ r l. absurd (omega arith); ahead = λ r l. refl }
-
   pub folded_more : (f g g₁ : ℕ → Carrier) (h : ℕ) (y : Carrier) (c : ℕ → Carrier) (p : ℕ) (v : Carrier) → Folded R f g h y c p → Put g g₁ p (y ⊗ (g p ⊕ g (p + h)) ⊕ v) → v ≡ c p → Folded R f g₁ h y c (p + 1)
   folded_more f g g₁ h y c p v t u e = record {
     low = below_more (λ r. g₁ r ≡ y ⊗ (f r ⊕ f (r + h)) ⊕ c r) p (λ r l. u.other r (omega arith) ∙ t.low r l) (u.here ∙ ap₂ ◌⊕◌ (ap₂ (λ a b. y ⊗ (a ⊕ b)) (t.ahead p (omega arith)) (t.ahead (p + h) (omega arith))) e);

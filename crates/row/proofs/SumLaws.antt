@@ -29,15 +29,6 @@ module _ (R : Ring) where
   sum_cong zero c e h = refl
   sum_cong (suc n) c e h = ap₂ ◌⊕◌ (sum_cong n c e (λ i l. h i (omega arith))) (h n (omega arith))
 
-  pub added_none : (f c : ℕ → Carrier) → Added R f f c 0
-  added_none f c = record { low = λ k h. absurd (omega arith); rest = λ k h. refl }
-
-  pub added_more : (f g g₁ c : ℕ → Carrier) (n : ℕ) (x : Carrier) → Added R f g c n → Put g g₁ n (g n ⊕ x) → x ≡ c n → Added R f g₁ c (n + 1)
-  added_more f g g₁ c n x t p e = record {
-    low = below_more (λ k. g₁ k ≡ f k ⊕ c k) n (λ k l. p.other k (omega arith) ∙ t.low k l) (p.here ∙ ap₂ ◌⊕◌ (t.rest n (omega arith)) e);
-    rest = λ k l. p.other k (omega arith) ∙ t.rest k (omega arith);
-  }
-
   module _ (f : ℕ → Carrier) (a s k : ℕ) (c : ℕ → Carrier) (h : k < s) where
     pub down_more : (g g₁ : ℕ → Carrier) (n : ℕ) (x : Carrier) → AddedDown R f g a s k c n → Put g g₁ (a + s * n + k) (g (a + s * n + k) ⊕ x) → x ≡ c n → AddedDown R f g₁ a s k c (n + 1)
     down_more g g₁ n x t p e = record {

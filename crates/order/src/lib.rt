@@ -48,8 +48,8 @@ fn first_offender(n: usize, positions: &[u8]) -> Option<usize>
     ensures { result ≡ looked_at n (first_offender n positions.now) }
 {
     let mut seen = [0u64; WORDS];
-    for i in 0..n {
-        let position = usize::from(positions[i]);
+    for (i, &byte) in positions.iter().enumerate() {
+        let position = usize::from(byte);
         if n <= position || has(&seen, position) {
             return Some(i);
         }

@@ -1,4 +1,6 @@
 -- What quick_look's answer tells, proved.
+use Rattle.std.specs.Prelude.{Result, Ok, Err, Option, Some, None}
+use Rattle.refusal.specs.declared.Refusal.TheVariants.{SizeN, SliceLength}
 use mathlib.Core.Path.{◌≡◌, refl, sym, ap, ◌∙◌, subst}
 use mathlib.Core.Bool.{Bool, true, false, not, cond, ◌||◌, ◌&&◌, false≢true}
 use mathlib.Core.Logic.Iff
@@ -14,10 +16,8 @@ use Rattle.lists.specs.Lent.{long}
 use Rattle.lists.specs.Count.{count}
 use Rattle.lists.proofs.Count.{count_none, count_at}
 use Rattle.lists.proofs.Lent.{each_long}
-use Rattle.refusal.specs.Answer.{first_of, written}
+use Rattle.refusal.specs.Answer.{first_of, written, Answer, Done}
 use Rattle.refusal.specs.declared.Refusal.{Refusal}
-use Rattle.refusal.specs.declared.Answer.{Answer}
-use Rattle.refusal.specs.declared.Answer.TheVariants as answer
 use Rattle.refusal.proofs.Answers.{none}
 use Rattle.field.specs.declared.Level.{Level}
 use Rattle.field.specs.Level.{K, level_at}
@@ -38,8 +38,6 @@ use Rattle.constraints.specs.Entry.{constraints_lent, constraints_rows, constrai
 use Rattle.constraints.proofs.Join.{join-left}
 use Rattle.constraints.proofs.Fine.{constraints_fine}
 use Rattle.constraints.proofs.Truth.{tops_solve, polynomial-written}
-use Rattle.order.specs.declared.Looked.{Looked}
-use Rattle.order.specs.declared.Looked.TheVariants.{Well, Offender, Refused}
 use Rattle.order.specs.Entry.{no_column, among, offends, first_offender, looked_at, looked_as, look_rows, look_outcome}
 use Rattle.order.specs.Tells.{Fits, IsFirst, NoneTooLarge, ColumnTopsZero, Tells}
 use Rattle.order.proofs.First.{Found, found}
@@ -55,30 +53,35 @@ column-below n p e = go (ltb p n) (ltb p (2 ^ degree n)) refl e
     go false true f g = absurd (false≢true (sym (ap no_column g)))
     go false false f g = absurd (false≢true (sym (ap no_column g)))
 
--- the case of an answer, and its index
-abbrev pub is_well : Looked → Bool
-is_well Well = true
-is_well (Offender i) = false
-is_well (Refused q) = false
+-- the case of an answer, and the index that it has
+abbrev pub is_well : Result (Option ℕ) Refusal → Bool
+is_well (Ok None) = true
+is_well (Ok (Some i)) = false
+is_well (Err q) = false
 
-abbrev is_offender : Looked → Bool
-is_offender Well = false
-is_offender (Offender i) = true
-is_offender (Refused q) = false
+abbrev is_offender : Result (Option ℕ) Refusal → Bool
+is_offender (Ok None) = false
+is_offender (Ok (Some i)) = true
+is_offender (Err q) = false
 
-abbrev index_of : Looked → ℕ
-index_of Well = 0
-index_of (Offender i) = i
-index_of (Refused q) = 0
+abbrev index_of : Option ℕ → ℕ
+index_of None = 0
+index_of (Some i) = i
 
 -- past the refusals
-as_well : (a : Answer) (x : Looked) → (looked_as a x ≡ Well) ↔ ((a ≡ answer.Done) × (x ≡ Well))
-as_well answer.Done x = (λ e. (refl, e), λ e. e.1)
-as_well (answer.Refused q) x = (λ e. absurd (false≢true (ap is_well e)), λ e. ap (λ a. looked_as a x) e.0 ∙ e.1)
+answered : {x y : Option ℕ} → ◌≡◌ {A = Result (Option ℕ) Refusal} (Ok x) (Ok y) → x ≡ y
+answered e = cc
 
-as_offender : (a : Answer) (x : Looked) (i : ℕ) → (looked_as a x ≡ Offender i) ↔ ((a ≡ answer.Done) × (x ≡ Offender i))
-as_offender answer.Done x i = (λ e. (refl, e), λ e. e.1)
-as_offender (answer.Refused q) x i = (λ e. absurd (false≢true (ap is_offender e)), λ e. ap (λ a. looked_as a x) e.0 ∙ e.1)
+as_answer : {x y : Option ℕ} → x ≡ y → ◌≡◌ {A = Result (Option ℕ) Refusal} (Ok x) (Ok y)
+as_answer e = ap (λ (x : Option ℕ). Ok x) e
+
+as_well : (a : Answer) (x : Option ℕ) → (looked_as a x ≡ Ok None) ↔ ((a ≡ Done) × (x ≡ None))
+as_well (Ok _) x = (λ e. (refl, answered e), λ e. as_answer e.1)
+as_well (Err q) x = (λ e. absurd (false≢true (ap is_well e)), λ e. ap (λ a. looked_as a x) e.0 ∙ as_answer e.1)
+
+as_offender : (a : Answer) (x : Option ℕ) (i : ℕ) → (looked_as a x ≡ Ok (Some i)) ↔ ((a ≡ Done) × (x ≡ Some i))
+as_offender (Ok _) x i = (λ e. (refl, answered e), λ e. as_answer e.1)
+as_offender (Err q) x i = (λ e. absurd (false≢true (ap is_offender e)), λ e. ap (λ a. looked_as a x) e.0 ∙ as_answer e.1)
 
 module _ (n : ℕ) (positions : List ℕ) where
   -- what fits is no offender
@@ -122,23 +125,23 @@ module _ (n : ℕ) (positions : List ℕ) where
       go (no g) (yes k) = absurd (misfit (none-fits i (F.before i (omega arith) k)))
       go (no g) (no h) = omega arith
 
-  well_order : (looked_at n (first_offender n positions) ≡ Well) ↔ Order n (position_at positions)
-  well_order = (λ e. all_fit.1 (λ i l. none-fits i (F.before i (omega arith) (omega (arith, last (ltb f n) refl e)))), λ o. ap (λ b. cond b (Offender f) Well) (le-ltb f n (past (all_fit.0 o) (dec_lt f n))))
+  well_order : (looked_at n (first_offender n positions) ≡ None) ↔ Order n (position_at positions)
+  well_order = (λ e. all_fit.1 (λ i l. none-fits i (F.before i (omega arith) (omega (arith, last (ltb f n) refl e)))), λ o. ap (λ b. cond b (Some f) None) (le-ltb f n (past (all_fit.0 o) (dec_lt f n))))
     where
-      last : (b : Bool) → ltb (first_offender n positions) n ≡ b → cond b (Offender (first_offender n positions)) Well ≡ Well → n ≤ first_offender n positions
-      last true g e = absurd (false≢true (ap is_well e))
+      last : (b : Bool) → ltb (first_offender n positions) n ≡ b → cond b (Some (first_offender n positions)) None ≡ None → n ≤ first_offender n positions
+      last true g e = absurd (false≢true (ap is_well (as_answer e)))
       last false g e = ltb-false f n g
 
       past : ((i : ℕ) → i < n → Fits n positions i) → Dec (first_offender n positions < n) → n ≤ first_offender n positions
       past fit (yes l) = absurd ((found_first l).2 (fit f l))
       past fit (no g) = omega arith
 
-  offender_first : (i : ℕ) → (looked_at n (first_offender n positions) ≡ Offender i) ↔ IsFirst n positions i
-  offender_first i = (λ e. there (ltb f n) refl e, λ z. let e = first_found_lem i z in ap (λ b. cond b (Offender f) Well) (lt-ltb f n (omega (arith, e, z.0))) ∙ ap Offender e)
+  offender_first : (i : ℕ) → (looked_at n (first_offender n positions) ≡ Some i) ↔ IsFirst n positions i
+  offender_first i = (λ e. there (ltb f n) refl e, λ z. let e = first_found_lem i z in ap (λ b. cond b (Some f) None) (lt-ltb f n (omega (arith, e, z.0))) ∙ ap (λ (i : ℕ). Some i) e)
     where
-      there : (b : Bool) → ltb (first_offender n positions) n ≡ b → cond b (Offender (first_offender n positions)) Well ≡ Offender i → IsFirst n positions i
+      there : (b : Bool) → ltb (first_offender n positions) n ≡ b → cond b (Some (first_offender n positions)) None ≡ Some i → IsFirst n positions i
       there true g e = subst (IsFirst n positions) (ap index_of e) (found_first (ltb-true f n g))
-      there false g e = absurd (false≢true (ap is_offender e))
+      there false g e = absurd (false≢true (ap is_offender (as_answer e)))
 
 -- columns are made of n and the positions alone
 module _ (l : Level) (n m : ℕ) (lent : KeySlices) (positions v : List ℕ) where
@@ -160,13 +163,13 @@ pub record Fine (l : Level) (n : ℕ) (positions : List ℕ) : Type 0 where
   pub most : n ≤ l.most
   pub positions-length : length positions ≡ n
 
-pub fine : (l : Level) (n : ℕ) (positions : List ℕ) → first_of (look_rows l n positions) ≡ answer.Done → Fine l n positions
+pub fine : (l : Level) (n : ℕ) (positions : List ℕ) → first_of (look_rows l n positions) ≡ Done → Fine l n positions
 fine l n positions e =
     let r = none (look_rows l n positions) e in
     record { two = ltb-false n 2 r.0; most = ltb-false l.most n r.1.0; positions-length = (each_long ((positions, n) ∷ []) (not-false (long ((positions, n) ∷ [])) r.1.1.0)).0 }
 
-pub fine-done : (l : Level) (n : ℕ) (positions : List ℕ) → Fine l n positions → first_of (look_rows l n positions) ≡ answer.Done
-fine-done l n positions z = λ t. first_of ((le-ltb n 2 z.two t, 1) ∷ (le-ltb l.most n z.most t, 1) ∷ (not (eq-eqb (length positions) n z.positions-length t && true), 3) ∷ [])
+pub fine-done : (l : Level) (n : ℕ) (positions : List ℕ) → Fine l n positions → first_of (look_rows l n positions) ≡ Done
+fine-done l n positions z = λ t. first_of ((le-ltb n 2 z.two t, SizeN) ∷ (le-ltb l.most n z.most t, SizeN) ∷ (not (eq-eqb (length positions) n z.positions-length t && true), SliceLength) ∷ [])
 
 module _ (number n : ℕ) (positions : List ℕ) where
   abbrev l : Level
@@ -191,29 +194,29 @@ module _ (number n : ℕ) (positions : List ℕ) where
       solve small = let b = bounded number in tops_solve l b.width b.coordinates n 0 lent (omega (arith, b.most, z.most)) positions small v
 
   -- what constraints leaves where it is done
-  constraints_left : (m : ℕ) (lent : KeySlices) (u v t q : List ℕ) → let key : Key = record { n = n; m = m } in first_of (constraints_rows (level_at number) key lent positions u v t q) ≡ answer.Done
+  constraints_left : (m : ℕ) (lent : KeySlices) (u v t q : List ℕ) → let key : Key = record { n = n; m = m } in first_of (constraints_rows (level_at number) key lent positions u v t q) ≡ Done
       → (constraints_outcome (level_at number) key lent positions u v t q).1.1 ≡ polynomial_words (level_at number) (system_of (level_at number) n m lent) (witness_of n positions) v
   unfolding constraints_outcome
   constraints_left m lent u v t q e = ap (λ (a : Answer). (written {A = List ℕ × List ℕ} a (masked_bytes (system_of l n m lent) (witness_of n positions) u, polynomial_words l (system_of l n m lent) (witness_of n positions) v) (t, q)).1) e
 
   -- the answer, past the refusals
-  looked_order : (look_outcome (level_at number) n positions ≡ Well) ↔ ((first_of (look_rows (level_at number) n positions) ≡ answer.Done) × Order n (position_at positions))
+  looked_order : (look_outcome (level_at number) n positions ≡ Ok None) ↔ ((first_of (look_rows (level_at number) n positions) ≡ Done) × Order n (position_at positions))
   unfolding look_outcome
   looked_order = Iff.trans (as_well (first_of (look_rows (level_at number) n positions)) (looked_at n (first_offender n positions))) (under (λ d. well_order n positions))
 
-  looked_first : (i : ℕ) → (look_outcome (level_at number) n positions ≡ Offender i) ↔ ((first_of (look_rows (level_at number) n positions) ≡ answer.Done) × IsFirst n positions i)
+  looked_first : (i : ℕ) → (look_outcome (level_at number) n positions ≡ Ok (Some i)) ↔ ((first_of (look_rows (level_at number) n positions) ≡ Done) × IsFirst n positions i)
   unfolding look_outcome
   looked_first i = Iff.trans (as_offender (first_of (look_rows (level_at number) n positions)) (looked_at n (first_offender n positions)) i) (under (λ d. offender_first n positions i))
 
   -- where constraints is done, none is too large and no refusal applies here
-  done-fine : (m : ℕ) (lent : KeySlices) (u v t q : List ℕ) → first_of (constraints_rows (level_at number) (record { n = n; m = m }) lent positions u v t q) ≡ answer.Done → Fine (level_at number) n positions × NoneTooLarge n positions
+  done-fine : (m : ℕ) (lent : KeySlices) (u v t q : List ℕ) → first_of (constraints_rows (level_at number) (record { n = n; m = m }) lent positions u v t q) ≡ Done → Fine (level_at number) n positions × NoneTooLarge n positions
   done-fine m lent u v t q e =
       let key : Key = record { n = n; m = m } in
       let c = constraints_fine number key lent positions u v t q e in
       let k = checked l key (long (constraints_lent (lengths l key) lent positions u v t q)) lent (below 1 u) (withins l (v ∷ [])) (codes_of n positions) e in
       (record { two = c.is-sized.two; most = c.is-sized.most; positions-length = c.positions-length }, k.positions-fine)
 
-  pub tells : {IsWell : Type 0} {IsOffender : ℕ → Type 0} → (IsWell ↔ (look_outcome (level_at number) n positions ≡ Well)) → ((i : ℕ) → IsOffender i ↔ (look_outcome (level_at number) n positions ≡ Offender i)) → Tells (level_at number) n positions IsWell IsOffender
+  pub tells : {IsWell : Type 0} {IsOffender : ℕ → Type 0} → (IsWell ↔ (look_outcome (level_at number) n positions ≡ Ok None)) → ((i : ℕ) → IsOffender i ↔ (look_outcome (level_at number) n positions ≡ Ok (Some i))) → Tells (level_at number) n positions IsWell IsOffender
   tells well offender = record {
     order = Iff.trans well looked_order;
     first = λ i. Iff.trans (offender i) (looked_first i);
@@ -221,24 +224,19 @@ module _ (number n : ℕ) (positions : List ℕ) where
     left = λ m lent u v t q e. Iff.trans well (Iff.trans looked_order (settled m lent u v t q e));
   }
     where
-      settled : (m : ℕ) (lent : KeySlices) (u v t q : List ℕ) → first_of (constraints_rows (level_at number) (record { n = n; m = m }) lent positions u v t q) ≡ answer.Done
-          → ((first_of (look_rows (level_at number) n positions) ≡ answer.Done) × Order n (position_at positions)) ↔ ColumnTopsZero (level_at number) n (constraints_outcome (level_at number) (record { n = n; m = m }) lent positions u v t q).1.1
+      settled : (m : ℕ) (lent : KeySlices) (u v t q : List ℕ) → first_of (constraints_rows (level_at number) (record { n = n; m = m }) lent positions u v t q) ≡ Done
+          → ((first_of (look_rows (level_at number) n positions) ≡ Done) × Order n (position_at positions)) ↔ ColumnTopsZero (level_at number) n (constraints_outcome (level_at number) (record { n = n; m = m }) lent positions u v t q).1.1
       settled m lent u v t q e =
           let z = done-fine m lent u v t q e in
           let o = tops-order z.0 m lent v in
           let is = constraints_left m lent u v t q e in
           (λ x. subst (ColumnTopsZero (level_at number) n) (sym is) (o.0 x.1).1, λ x. (fine-done (level_at number) n positions z.0, o.1 (z.1, subst (ColumnTopsZero (level_at number) n) is x)))
 
-  -- the outcome by the index that is found, and of a refusal
-  module _ {a : Answer} (e : a ≡ first_of (look_rows (level_at number) n positions)) where
-    pub outcome-found : {k : ℕ} {b : Bool} → a ≡ answer.Done → k ≡ first_offender n positions → ltb k n ≡ b → cond b (Offender k) Well ≡ look_outcome (level_at number) n positions
-    unfolding look_outcome
-    outcome-found {k} d g h = ap (λ c. cond c (Offender k) Well) (sym h) ∙ ap (looked_at n) g ∙ ap (λ x. looked_as x (looked_at n (first_offender n positions))) (sym d ∙ e)
-
-    pub outcome-refused : {q : Refusal} → a ≡ answer.Refused q → Refused q ≡ look_outcome (level_at number) n positions
-    unfolding look_outcome
-    outcome-refused d = ap (λ x. looked_as x (looked_at n (first_offender n positions))) (sym d ∙ e)
+  -- the outcome of what is found
+  pub outcome-found : {a : Answer} {x : Option ℕ} → a ≡ first_of (look_rows (level_at number) n positions) → a ≡ Done → x ≡ looked_at n (first_offender n positions) → Ok x ≡ look_outcome (level_at number) n positions
+  unfolding look_outcome
+  outcome-found e d g = as_answer g ∙ ap (λ a. looked_as a (looked_at n (first_offender n positions))) (sym d ∙ e)
 
   -- both promises of an answer
-  pub promised : {r : Looked} → r ≡ look_outcome (level_at number) n positions → (r ≡ look_outcome (level_at number) n positions) × Tells (level_at number) n positions (r ≡ Well) (λ i. r ≡ Offender i)
+  pub promised : {r : Result (Option ℕ) Refusal} → r ≡ look_outcome (level_at number) n positions → (r ≡ look_outcome (level_at number) n positions) × Tells (level_at number) n positions (r ≡ Ok None) (λ i. r ≡ Ok (Some i))
   promised e = (e, tells (λ d. sym e ∙ d, λ d. e ∙ d) (λ i. (λ d. sym e ∙ d, λ d. e ∙ d)))

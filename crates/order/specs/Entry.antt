@@ -1,23 +1,21 @@
 -- What the entry quick_look answers.
-use Rattle.std.specs.Prelude.{Bool, true, false, not, cond, ◌||◌, List, [], ◌∷◌, ◌++◌, ℕ, zero, suc, ltb, eqb}
+use Rattle.refusal.specs.declared.Refusal.{Refusal}
+use Rattle.refusal.specs.declared.Refusal.TheVariants.{SliceLength}
+use Rattle.std.specs.Prelude.{Result, Ok, Err, Option, Some, None, Bool, true, false, not, cond, ◌||◌, List, [], ◌∷◌, ◌++◌, ℕ, zero, suc, ltb, eqb}
 use Rattle.lists.specs.Lent.{long}
 use Rattle.lists.specs.Count.{count}
-use Rattle.refusal.specs.Answer.{first_of}
-use Rattle.refusal.specs.declared.Answer.{Answer}
-use Rattle.refusal.specs.declared.Answer.TheVariants as answer
+use Rattle.refusal.specs.Answer.{number, first_of, Answer}
 use Rattle.field.specs.declared.Level.{Level}
 use Rattle.key.specs.declared.Code.{Code}
 use Rattle.key.specs.declared.Code.TheVariants.{Column, Spare, TooLarge}
 use Rattle.key.specs.Key.{size_n, code_of}
 use Rattle.constraints.specs.Slices.{position_at}
-use Rattle.order.specs.declared.Looked.{Looked}
-use Rattle.order.specs.declared.Looked.TheVariants.{Well, Offender, Refused}
 
 -- the number of each answer: 0 "that all is well", 255, which no refusal has, with "its index", else the paper's number of the refusal
-abbrev pub number_of : Looked → ℕ
-number_of Well = 0
-number_of (Offender i) = 255
-number_of (Refused q) = q.number
+abbrev pub number_of : Result (Option ℕ) Refusal → ℕ
+number_of (Ok None) = 0
+number_of (Ok (Some i)) = 255
+number_of (Err q) = number q
 
 -- "no column": a spare code, or too large
 abbrev pub no_column : Code → Bool
@@ -43,17 +41,17 @@ abbrev pub first_offender : (n : ℕ) (positions : List ℕ) → ℕ
 first_offender n positions = first_from (offends n positions) 0 n
 
 -- "its index, or that all is well"
-abbrev pub looked_at : (n index : ℕ) → Looked
-looked_at n index = cond (ltb index n) (Offender index) Well
+abbrev pub looked_at : (n index : ℕ) → Option ℕ
+looked_at n index = cond (ltb index n) (Some index) None
 
 -- or the refusal
-abbrev pub looked_as : Answer → Looked → Looked
-looked_as answer.Done looked = looked
-looked_as (answer.Refused q) looked = Refused q
+abbrev pub looked_as : Answer → Option ℕ → Result (Option ℕ) Refusal
+looked_as (Ok _) looked = Ok looked
+looked_as (Err q) looked = Err q
 
 -- "Refusals 1 and 3 apply here, in that order"
-abbrev pub look_rows : Level → (n : ℕ) (positions : List ℕ) → List (Bool × ℕ)
-look_rows l n positions = size_n l n ++ ((not (long ((positions, n) ∷ [])), 3) ∷ [])
+abbrev pub look_rows : Level → (n : ℕ) (positions : List ℕ) → List (Bool × Refusal)
+look_rows l n positions = size_n l n ++ ((not (long ((positions, n) ∷ [])), SliceLength) ∷ [])
 
-unfoldable pub look_outcome : Level → (n : ℕ) (positions : List ℕ) → Looked
+unfoldable pub look_outcome : Level → (n : ℕ) (positions : List ℕ) → Result (Option ℕ) Refusal
 look_outcome l n positions = looked_as (first_of (look_rows l n positions)) (looked_at n (first_offender n positions))

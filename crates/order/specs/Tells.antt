@@ -1,7 +1,6 @@
 -- What quick_look's answer tells of the positions.
 use Rattle.std.specs.Prelude.{◌≡◌, ◌↔◌, false, List, ℕ, ◌<◌}
-use Rattle.refusal.specs.Answer.{first_of}
-use Rattle.refusal.specs.declared.Answer.TheVariants.{Done}
+use Rattle.refusal.specs.Answer.{first_of, Done}
 use Rattle.field.specs.declared.Level.{Level}
 use Rattle.field.specs.Level.{K}
 use Rattle.key.specs.declared.Key.{Key}

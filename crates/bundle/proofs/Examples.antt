@@ -15,8 +15,10 @@ use Rattle.elimination.specs.Elimination.{lowest, pivot, column, after as cleare
 use Rattle.elimination.specs.Rank.{is_zero, rank_of}
 use Rattle.key.specs.Key.{degree, below}
 use Rattle.layout.specs.Tests.{row_tests, tests, after, part_of}
-use Rattle.bundle.specs.declared.Read.{Read}
-use Rattle.bundle.specs.declared.Read.TheVariants.{Fields, Refused}
+use Rattle.std.specs.Prelude.{Result, Ok, Err}
+use Rattle.refusal.specs.declared.Refusal.{Refusal}
+use Rattle.refusal.specs.declared.Refusal.TheVariants.{Bit, Coordinate, BytesMissing, Tag, FieldLength, LongSerial, SerialOrder}
+use Rattle.bundle.specs.declared.Contents.{Contents}
 use Rattle.bundle.specs.Bundle.{starts_from, groups_tests}
 use Rattle.bundle.specs.Reading.{reading}
 
@@ -35,11 +37,12 @@ short x = group (0 ∷ 2 ∷ 0 ∷ x ∷ []) 1 5
 abbrev pub long : ℕ → List ℕ
 long x = group (0 ∷ 4 ∷ 0 ∷ 1 ∷ 0 ∷ x ∷ []) 1 5
 
-abbrev refused : ℕ → Read
-refused k = Refused (record { number = k })
+-- the answer of read_bundle
+abbrev Read : Type 0
+Read = Result Contents Refusal
 
 abbrev read : ℕ → Read
-read k = Fields (record { n = 2; m = 1; groups = k })
+read k = Ok (record { n = 2; m = 1; groups = k })
 
 -- what follows the key fields, and what reading the bundle answers
 pub bundles : List (List ℕ × Read)
@@ -47,19 +50,19 @@ bundles =
     (short 7, read 1)
     ∷ (short 7 ++ short 9, read 2)
     ∷ (short 7 ++ short 255 ++ long 0, read 3)
-    ∷ ([], refused 9)
-    ∷ (short 7 ++ 0x05 ∷ [], refused 9)
-    ∷ (short 7 ++ 0x05 ∷ 0 ∷ [], refused 9)
-    ∷ (short 7 ++ 0x06 ∷ 0 ∷ [], refused 9)
-    ∷ (short 7 ++ 0x06 ∷ 0 ∷ 2 ∷ [], refused 10)
-    ∷ (short 7 ++ 0x05 ∷ 0 ∷ 3 ∷ [], refused 11)
-    ∷ (short 7 ++ short 7, refused 20)
-    ∷ (short 9 ++ short 7, refused 20)
-    ∷ (long 0 ++ short 255, refused 20)
-    ∷ (short 7 ++ group (0 ∷ 4 ∷ 0 ∷ 0 ∷ 0 ∷ 1 ∷ []) 1 5, refused 19)
-    ∷ (short 7 ++ group (0 ∷ 2 ∷ 0 ∷ 7 ∷ []) 2 5, refused 20)
-    ∷ (short 7 ++ group (0 ∷ 2 ∷ 0 ∷ 8 ∷ []) 2 5, refused 5)
-    ∷ (set (short 7) 13 8 ++ short 7, refused 6)
+    ∷ ([], Err BytesMissing)
+    ∷ (short 7 ++ 0x05 ∷ [], Err BytesMissing)
+    ∷ (short 7 ++ 0x05 ∷ 0 ∷ [], Err BytesMissing)
+    ∷ (short 7 ++ 0x06 ∷ 0 ∷ [], Err BytesMissing)
+    ∷ (short 7 ++ 0x06 ∷ 0 ∷ 2 ∷ [], Err Tag)
+    ∷ (short 7 ++ 0x05 ∷ 0 ∷ 3 ∷ [], Err FieldLength)
+    ∷ (short 7 ++ short 7, Err SerialOrder)
+    ∷ (short 9 ++ short 7, Err SerialOrder)
+    ∷ (long 0 ++ short 255, Err SerialOrder)
+    ∷ (short 7 ++ group (0 ∷ 4 ∷ 0 ∷ 0 ∷ 0 ∷ 1 ∷ []) 1 5, Err LongSerial)
+    ∷ (short 7 ++ group (0 ∷ 2 ∷ 0 ∷ 7 ∷ []) 2 5, Err SerialOrder)
+    ∷ (short 7 ++ group (0 ∷ 2 ∷ 0 ∷ 8 ∷ []) 2 5, Err Bit)
+    ∷ (set (short 7) 13 8 ++ short 7, Err Coordinate)
     ∷ []
 
 pub examples : map (λ b. reading (level_at FIRST) (key ++ b.0)) bundles ≡ map (λ b. b.1) bundles

@@ -1,4 +1,5 @@
 -- The laws of bundles: what the reader owes to what is written.
+use Rattle.refusal.specs.declared.Refusal.TheVariants.{DependentRows}
 use mathlib.Core.Path.{◌≡◌, refl, sym, ap, ap₂, ◌∙◌, subst}
 use mathlib.Core.Bool.{false}
 use mathlib.Core.List.{List, [], ◌∷◌, ◌++◌, map, append-nil}
@@ -8,8 +9,7 @@ use lib.ListN.{length, get_or, take, drop, length-append, length-drop, take-appe
 use lib.Seq.{drop_at, take_at, length-take-le}
 use Rattle.copying.specs.Words.{Bytes, words}
 use Rattle.copying.proofs.Bytes.{words-bytes, bytes-append}
-use Rattle.refusal.specs.Answer.{first_of}
-use Rattle.refusal.specs.declared.Answer.TheVariants.{Done}
+use Rattle.refusal.specs.Answer.{first_of, Done}
 use Rattle.refusal.proofs.Answers.{None, none}
 use Rattle.field.specs.Level.{FIRST, level_at}
 use Rattle.key.specs.declared.Key.{Key}
@@ -27,7 +27,7 @@ use Rattle.package.proofs.Opening.{key_table, KeyPasses, key_laws, rest-leans, k
 use Rattle.package.proofs.Forms.{group_table, group-fits, group-bytes, group-next}
 use Rattle.package.proofs.Said.{target-said}
 use Rattle.bundle.specs.declared.Contents.{Contents}
-use Rattle.bundle.specs.declared.Read.TheVariants.{Fields}
+use Rattle.std.specs.Prelude.{Ok}
 use Rattle.bundle.specs.Bundle.{group_at, starts_from, groups_tests, starts, bundle_tests, key_data_of, groups_of}
 use Rattle.bundle.specs.Reading.{read_as, reading}
 use Rattle.bundle.specs.Written.{Bundle, groups_fields, written, ValidGroups, ValidBundle, Accepted, said, Faithful}
@@ -59,7 +59,7 @@ module _ (s : List ℕ) (b : Bytes s) (e : Accepted (level_at FIRST) s) where
   parts = none-append (key_tests (level_at FIRST) s) (groups_tests (level_at FIRST) (key_of s) s 0 (starts (level_at FIRST) s)) (none (bundle_tests (level_at FIRST) s) e)
 
   opening : None (tests (level_at FIRST) s 0 (key_segment (level_at FIRST) s)) × (leans (level_at FIRST) s ≡ false)
-  opening = let p = none-append (tests (level_at FIRST) s 0 (key_segment (level_at FIRST) s)) ((leans (level_at FIRST) s, 15) ∷ []) parts.0 in (p.0, p.1.0)
+  opening = let p = none-append (tests (level_at FIRST) s 0 (key_segment (level_at FIRST) s)) ((leans (level_at FIRST) s, DependentRows) ∷ []) parts.0 in (p.0, p.1.0)
 
   pub bundle_sized : Sized (level_at FIRST) (key_of s)
   bundle_sized = first-sized (level_at FIRST) s _ opening.0
@@ -132,7 +132,7 @@ module _ (k : KeyData) (v : ValidKey (level_at FIRST) k) (rest : List ℕ) (next
   opened-end = ap (after 0) segment ∙ after-joined (level_at FIRST) 0 (key_table k) (key_fields k) (key_laws.laws.fits k passing) ∙ omega arith
 
   pub opened-none : None (key_tests (level_at FIRST) opened)
-  opened-none = none-join (tests (level_at FIRST) opened 0 (key_segment (level_at FIRST) opened)) ((leans (level_at FIRST) opened, 15) ∷ []) opened-there.0 (rest-leans k passing rest ∙ valid-stands k v, tt)
+  opened-none = none-join (tests (level_at FIRST) opened 0 (key_segment (level_at FIRST) opened)) ((leans (level_at FIRST) opened, DependentRows) ∷ []) opened-there.0 (rest-leans k passing rest ∙ valid-stands k v, tt)
 
 -- bytes that are written
 module _ (k : KeyData) (g : Group) (groups : List Group) (v : ValidBundle (level_at FIRST) (record { key = k; groups = g ∷ groups })) where
@@ -175,11 +175,11 @@ module _ (k : KeyData) (g : Group) (groups : List Group) (v : ValidBundle (level
   written-said : said (level_at FIRST) bytes ≡ record { key = k; groups = g ∷ groups }
   written-said = ap₂ (λ (k : KeyData) (gs : List Group). record { key = k; groups = gs }) (key-said bytes k (valid-passes k v.key) starts-key key-there) groups_stand.1
 
-  written_read : reading (level_at FIRST) bytes ≡ Fields (record { n = k.sizes.n; m = k.sizes.m; groups = length (g ∷ groups) })
+  written_read : reading (level_at FIRST) bytes ≡ Ok (record { n = k.sizes.n; m = k.sizes.m; groups = length (g ∷ groups) })
   written_read =
       let c : (key : Key) (n : ℕ) → Contents = λ key n. record { n = key.n; m = key.m; groups = n } in
       ap (λ a. read_as a (c (key_of bytes) (length (starts (level_at FIRST) bytes)))) written-accepted
-      ∙ ap₂ (λ (key : Key) (n : ℕ). Fields (c key n)) starts-key (sym (map-length (group_at (level_at FIRST) (key_of bytes) bytes) (starts (level_at FIRST) bytes)) ∙ ap length groups_stand.1)
+      ∙ ap₂ (λ (key : Key) (n : ℕ). Ok (c key n)) starts-key (sym (map-length (group_at (level_at FIRST) (key_of bytes) bytes) (starts (level_at FIRST) bytes)) ∙ ap length groups_stand.1)
 
 groups-bytes : (key : Key) → Sized (level_at FIRST) key → (groups : List Group) → ValidGroups (level_at FIRST) key groups → Bytes (joined (groups_fields groups))
 unfolding joined groups_fields
@@ -213,7 +213,7 @@ bundle_faithful =
     let says : (x : Bundle) → ValidBundle l x → said l (written x) ≡ x = λ x v. by_groups (λ x. said l (written x) ≡ x) x v written-said in
     record {
       accepted = λ s b e. (accepted-valid s b e, accepted-written s b e);
-      read = λ x v. by_groups (λ x. reading l (written x) ≡ Fields (record { n = x.key.sizes.n; m = x.key.sizes.m; groups = length x.groups })) x v written_read;
+      read = λ x v. by_groups (λ x. reading l (written x) ≡ Ok (record { n = x.key.sizes.n; m = x.key.sizes.m; groups = length x.groups })) x v written_read;
       says = says;
       bytes = written-bytes;
       injective = λ x y v w e. sym (says x v) ∙ ap (said l) e ∙ says y w;

@@ -1,4 +1,5 @@
 -- Groups of a bundle, one after the other: what is read at a position, and what is written there.
+use Rattle.refusal.specs.declared.Refusal.TheVariants.{SerialOrder}
 use mathlib.Core.Path.{◌≡◌, refl, sym, ap, ap₂, ◌∙◌, subst}
 use mathlib.Core.Bool.{Bool, true, false, cond}
 use mathlib.Core.List.{List, [], ◌∷◌, ◌++◌, map}
@@ -41,7 +42,7 @@ module _ (key : Key) (s : List ℕ) where
       let l = level_at FIRST in
       let serial = serial_row s at ∷ [] in
       let p = none-append (serial_tests l key s low at) (tests l s (after at serial) (proof_rows l key)) e in
-      let q = none-append (tests l s at serial) ((ltb (group_at l key s at).serial low, 20) ∷ []) p.0 in
+      let q = none-append (tests l s at serial) ((ltb (group_at l key s at).serial low, SerialOrder) ∷ []) p.0 in
       (subst None (sym (tests-append l s at serial (proof_rows l key))) (none-join (tests l s at serial) (tests l s (after at serial) (proof_rows l key)) q.0 p.1), q.1.0)
 
   none-group : (low at : ℕ) → None (tests (level_at FIRST) s at (group_rows (level_at FIRST) key s at)) → ltb (group_at (level_at FIRST) key s at).serial low ≡ false → None (group_tests (level_at FIRST) key s low at)
@@ -49,7 +50,7 @@ module _ (key : Key) (s : List ℕ) where
       let l = level_at FIRST in
       let serial = serial_row s at ∷ [] in
       let p = none-append (tests l s at serial) (tests l s (after at serial) (proof_rows l key)) (subst None (tests-append l s at serial (proof_rows l key)) e) in
-      none-join (serial_tests l key s low at) (tests l s (after at serial) (proof_rows l key)) (none-join (tests l s at serial) ((ltb (group_at l key s at).serial low, 20) ∷ []) p.0 (f, tt)) p.1
+      none-join (serial_tests l key s low at) (tests l s (after at serial) (proof_rows l key)) (none-join (tests l s at serial) ((ltb (group_at l key s at).serial low, SerialOrder) ∷ []) p.0 (f, tt)) p.1
 
   -- a group that is not refused: it is within the limits, and the bytes from its position on are its fields and what follows
   pub record Read (at : ℕ) : Type 0 where

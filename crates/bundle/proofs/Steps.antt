@@ -1,4 +1,6 @@
 -- What the functions that read groups answer, step by step.
+use Rattle.std.specs.Prelude.{Result, Ok, Err}
+use Rattle.refusal.specs.declared.Refusal.TheVariants.{SerialOrder}
 use mathlib.Core.Path.{◌≡◌, refl, sym, ap, ap₂, ◌∙◌}
 use mathlib.Core.Bool.{Bool}
 use mathlib.Core.List.{List, [], ◌∷◌, ◌++◌}
@@ -8,66 +10,59 @@ use native.Mathlib.Omega.{arith}
 use borrow.Author.Tests.{lt-ltb, le-ltb}
 use lib.Dec.{ltb}
 use lib.ListN.{length}
-use Rattle.refusal.specs.Answer.{first_of}
+use Rattle.refusal.specs.Answer.{first_of, Answer, Done}
 use Rattle.refusal.specs.declared.Refusal.{Refusal}
-use Rattle.refusal.specs.declared.Answer.{Answer}
-use Rattle.refusal.specs.declared.Answer.TheVariants.{Done, Refused}
 use Rattle.refusal.proofs.Answers.{none, pass, stop}
 use Rattle.field.specs.Level.{FIRST, level_at}
 use Rattle.key.specs.declared.Key.{Key}
 use Rattle.layout.specs.Layout.{serial_row, proof_rows}
-use Rattle.layout.specs.declared.Step.{Step}
-use Rattle.layout.specs.declared.Step.TheVariants as step
 use Rattle.layout.specs.Tests.{key_of, tests, after}
-use Rattle.layout.specs.Steps.{stepped, outcome, further}
+use Rattle.layout.specs.Steps.{stepped, outcome}
 use Rattle.layout.proofs.Rows.{step_next, first_stops, first_ends, head_passed, after-append}
 use Rattle.bundle.specs.declared.Contents.{Contents}
-use Rattle.bundle.specs.declared.Read.TheVariants.{Fields}
 use Rattle.bundle.specs.declared.Groups.{Groups}
-use Rattle.bundle.specs.declared.Found.TheVariants as groups
 use Rattle.bundle.specs.Bundle.{group_at, group_end, starts_from, serial_tests, group_tests, groups_tests, starts, bundle_tests}
 use Rattle.bundle.specs.Reading.{found, read_as, reading}
 use Rattle.bundle.proofs.Places.{end-above, group-none}
 
 module _ (key : Key) (s : List ℕ) (low at : ℕ) where
-  abbrev serial : List (Bool × ℕ)
+  abbrev serial : List (Bool × Refusal)
   serial = tests (level_at FIRST) s at (serial_row s at ∷ [])
 
   abbrev end : ℕ
   end = after at (serial_row s at ∷ [])
 
   -- the serial's field is refused, or lies within the bytes and is below low, or not
-  pub serial_stops : {p : Step} {r : Refusal} → p ≡ outcome (level_at FIRST) s at (serial_row s at ∷ []) → p ≡ step.Refused r → p ≡ stepped (first_of (serial_tests (level_at FIRST) key s low at)) end
-  serial_stops e f = f ∙ ap (λ a. stepped a end) (first_stops serial ((ltb (group_at (level_at FIRST) key s at).serial low, 20) ∷ []) end (sym e ∙ f))
+  pub serial_stops : {p : Result ℕ Refusal} {r : Refusal} → p ≡ outcome (level_at FIRST) s at (serial_row s at ∷ []) → p ≡ Err r → p ≡ stepped (first_of (serial_tests (level_at FIRST) key s low at)) end
+  serial_stops e f = f ∙ ap (λ a. stepped a end) (first_stops serial ((ltb (group_at (level_at FIRST) key s at).serial low, SerialOrder) ∷ []) end (sym e ∙ f))
 
-  pub serial-fits : {p : Step} {q : ℕ} → p ≡ outcome (level_at FIRST) s at (serial_row s at ∷ []) → p ≡ step.Next q → at + 3 + (serial_row s at).len ≤ length s
+  pub serial-fits : {p : Result ℕ Refusal} {q : ℕ} → p ≡ outcome (level_at FIRST) s at (serial_row s at ∷ []) → p ≡ Ok q → at + 3 + (serial_row s at).len ≤ length s
   serial-fits e f = (head_passed (level_at FIRST) s at (serial_row s at) [] (none serial (step_next (first_of serial) end (sym e ∙ f)).0)).0.fits
 
-  module _ {p : Step} {q : ℕ} (e : p ≡ outcome (level_at FIRST) s at (serial_row s at ∷ [])) (f : p ≡ step.Next q) where
-    pub serial-below : (group_at (level_at FIRST) key s at).serial < low → step.Refused (record { number = 20 }) ≡ stepped (first_of (serial_tests (level_at FIRST) key s low at)) end
+  module _ {p : Result ℕ Refusal} {q : ℕ} (e : p ≡ outcome (level_at FIRST) s at (serial_row s at ∷ [])) (f : p ≡ Ok q) where
+    pub serial-below : (group_at (level_at FIRST) key s at).serial < low → Err SerialOrder ≡ stepped (first_of (serial_tests (level_at FIRST) key s low at)) end
     serial-below h =
-        let d = first_ends serial ((ltb (group_at (level_at FIRST) key s at).serial low, 20) ∷ []) end (sym e ∙ f) in
-        sym (ap (λ a. stepped a end) (d.0 ∙ stop 20 [] (lt-ltb _ low h)))
+        let d = first_ends serial ((ltb (group_at (level_at FIRST) key s at).serial low, SerialOrder) ∷ []) end (sym e ∙ f) in
+        sym (ap (λ a. stepped a end) (d.0 ∙ stop SerialOrder [] (lt-ltb _ low h)))
 
     pub serial-passes : low ≤ (group_at (level_at FIRST) key s at).serial → p ≡ stepped (first_of (serial_tests (level_at FIRST) key s low at)) end
     serial-passes h =
-        let d = first_ends serial ((ltb (group_at (level_at FIRST) key s at).serial low, 20) ∷ []) end (sym e ∙ f) in
-        f ∙ ap step.Next d.1 ∙ sym (ap (λ a. stepped a end) (d.0 ∙ pass 20 [] (le-ltb _ low h)))
+        let d = first_ends serial ((ltb (group_at (level_at FIRST) key s at).serial low, SerialOrder) ∷ []) end (sym e ∙ f) in
+        f ∙ ap Ok d.1 ∙ sym (ap (λ a. stepped a end) (d.0 ∙ pass SerialOrder [] (le-ltb _ low h)))
 
-  -- t and a after it
-  pub group-further : {p q : Step} → p ≡ stepped (first_of (serial_tests (level_at FIRST) key s low at)) end → q ≡ further p (λ i. outcome (level_at FIRST) s i (proof_rows (level_at FIRST) key))
-      → q ≡ stepped (first_of (group_tests (level_at FIRST) key s low at)) (group_end (level_at FIRST) key s at)
-  group-further {p} {q} e f = pick p refl
-    where
-      pick : (r : Step) → p ≡ r → q ≡ stepped (first_of (group_tests (level_at FIRST) key s low at)) (group_end (level_at FIRST) key s at)
-      pick (step.Refused r) h =
-          f ∙ ap (λ z. further z (λ i. outcome (level_at FIRST) s i (proof_rows (level_at FIRST) key))) h
-          ∙ ap (λ a. stepped a (group_end (level_at FIRST) key s at)) (first_stops (serial_tests (level_at FIRST) key s low at) (tests (level_at FIRST) s end (proof_rows (level_at FIRST) key)) end (sym e ∙ h))
-      pick (step.Next i) h =
-          let d = first_ends (serial_tests (level_at FIRST) key s low at) (tests (level_at FIRST) s end (proof_rows (level_at FIRST) key)) end (sym e ∙ h) in
-          f ∙ ap (λ z. further z (λ i. outcome (level_at FIRST) s i (proof_rows (level_at FIRST) key))) h
-          ∙ ap (λ i. outcome (level_at FIRST) s i (proof_rows (level_at FIRST) key)) d.1
-          ∙ ap₂ (λ (a : Answer) (i : ℕ). stepped a i) (sym d.0) (sym (after-append at (serial_row s at ∷ []) (proof_rows (level_at FIRST) key)))
+  -- t and a after it: the serial's tests refuse the group, or they decide
+  module _ {p : Result ℕ Refusal} (e : p ≡ stepped (first_of (serial_tests (level_at FIRST) key s low at)) end) where
+    abbrev later : List (Bool × Refusal)
+    later = tests (level_at FIRST) s end (proof_rows (level_at FIRST) key)
+
+    pub group-stops : {r : Refusal} → p ≡ Err r → p ≡ stepped (first_of (group_tests (level_at FIRST) key s low at)) (group_end (level_at FIRST) key s at)
+    group-stops h = h ∙ ap (λ a. stepped a (group_end (level_at FIRST) key s at)) (first_stops (serial_tests (level_at FIRST) key s low at) later end (sym e ∙ h))
+
+    pub group-goes : {i : ℕ} → p ≡ Ok i → outcome (level_at FIRST) s i (proof_rows (level_at FIRST) key) ≡ stepped (first_of (group_tests (level_at FIRST) key s low at)) (group_end (level_at FIRST) key s at)
+    group-goes h =
+        let d = first_ends (serial_tests (level_at FIRST) key s low at) later end (sym e ∙ h) in
+        ap (λ i. outcome (level_at FIRST) s i (proof_rows (level_at FIRST) key)) d.1
+        ∙ ap₂ (λ (a : Answer) (i : ℕ). stepped a i) (sym d.0) (sym (after-append at (serial_row s at ∷ []) (proof_rows (level_at FIRST) key)))
 
 -- the groups from a position on, by the step of the first
 module _ (key : Key) (s : List ℕ) where
@@ -77,12 +72,12 @@ module _ (key : Key) (s : List ℕ) where
   abbrev count : (k at : ℕ) → ℕ
   count k at = length (starts_from (level_at FIRST) key s k at)
 
-  module _ (k low at : ℕ) {p : Step} (e : p ≡ stepped (first_of (group_tests (level_at FIRST) key s low at)) (group_end (level_at FIRST) key s at)) where
-    groups_stop : {r : Refusal} → p ≡ step.Refused r → answer (suc k) low at ≡ Refused r
+  module _ (k low at : ℕ) {p : Result ℕ Refusal} (e : p ≡ stepped (first_of (group_tests (level_at FIRST) key s low at)) (group_end (level_at FIRST) key s at)) where
+    groups_stop : {r : Refusal} → p ≡ Err r → answer (suc k) low at ≡ Err r
     unfolding starts_from groups_tests
     groups_stop f = sym (first_stops (group_tests (level_at FIRST) key s low at) _ (group_end (level_at FIRST) key s at) (sym e ∙ f))
 
-    module _ {q : ℕ} (f : p ≡ step.Next q) where
+    module _ {q : ℕ} (f : p ≡ Ok q) where
       abbrev serial_of : ℕ
       serial_of = (group_at (level_at FIRST) key s at).serial
 
@@ -115,12 +110,12 @@ module _ (key : Key) (s : List ℕ) where
   pub going_first : (start : ℕ) → Going start start 0 0
   going_first start = record { few = omega arith; less = omega arith; tests = ap (λ k. answer (suc k) 0 start) (sub-zero (length s)); starts = omega (arith, ap (λ k. count (suc k) start) (sub-zero (length s))) }
 
-  module _ (start at low number : ℕ) (g : Going start at low number) {p : Step} (e : p ≡ stepped (first_of (group_tests (level_at FIRST) key s low at)) (group_end (level_at FIRST) key s at)) where
-    pub going_stop : {r : Refusal} → p ≡ step.Refused r → groups.Refused r ≡ found (answer (suc (length s)) 0 start) start (count (suc (length s)) start)
+  module _ (start at low number : ℕ) (g : Going start at low number) {p : Result ℕ Refusal} (e : p ≡ stepped (first_of (group_tests (level_at FIRST) key s low at)) (group_end (level_at FIRST) key s at)) where
+    pub going_stop : {r : Refusal} → p ≡ Err r → Err r ≡ found (answer (suc (length s)) 0 start) start (count (suc (length s)) start)
     going_stop f = ap (λ a. found a start (count (suc (length s)) start)) (sym (groups_stop (length s - number) low at e f) ∙ g.tests)
 
-    module _ {q : ℕ} (f : p ≡ step.Next q) where
-      pub going_done : length s ≤ q → groups.Whole (record { start = start; number = number + 1 }) ≡ found (answer (suc (length s)) 0 start) start (count (suc (length s)) start)
+    module _ {q : ℕ} (f : p ≡ Ok q) where
+      pub going_done : length s ≤ q → Ok (record { start = start; number = number + 1 }) ≡ found (answer (suc (length s)) 0 start) start (count (suc (length s)) start)
       going_done h =
           let d = groups-done (length s - number) low at e f h in
           ap₂ (λ (a : Answer) (n : ℕ). found a start n) (sym d.0 ∙ g.tests) (omega (arith, d.1, g.starts))
@@ -139,18 +134,18 @@ module _ (key : Key) (s : List ℕ) where
           }
 
 -- what the groups found say of the answer behind them
-pub found-refused : (a : Answer) (i n : ℕ) {r : Refusal} → found a i n ≡ groups.Refused r → a ≡ Refused r
-found-refused Done i n e = let z : ◌≡◌ {A = ℕ} 0 1 = cc in absurd (omega arith)
-found-refused (Refused r) i n e = cc
+pub found-refused : (a : Answer) (i n : ℕ) {r : Refusal} → found a i n ≡ Err r → a ≡ Err r
+found-refused (Ok _) i n e = let z : ◌≡◌ {A = ℕ} 0 1 = cc in absurd (omega arith)
+found-refused (Err r) i n e = cc
 
-pub found-whole : (a : Answer) (i n : ℕ) {g : Groups} → found a i n ≡ groups.Whole g → (a ≡ Done) × (g ≡ record { start = i; number = n })
-found-whole Done i n e = (refl, cc)
-found-whole (Refused r) i n e = let z : ◌≡◌ {A = ℕ} 0 1 = cc in absurd (omega arith)
+pub found-whole : (a : Answer) (i n : ℕ) {g : Groups} → found a i n ≡ Ok g → (a ≡ Done) × (g ≡ record { start = i; number = n })
+found-whole (Ok _) i n e = (refl, cc)
+found-whole (Err r) i n e = let z : ◌≡◌ {A = ℕ} 0 1 = cc in absurd (omega arith)
 
-fields-only : (a : Answer) (c : Contents) {d : Contents} → read_as a c ≡ Fields d → (a ≡ Done) × (c ≡ d)
-fields-only Done c e = (refl, cc)
-fields-only (Refused r) c e = let z : ◌≡◌ {A = ℕ} 0 1 = cc in absurd (omega arith)
+fields-only : (a : Answer) (c : Contents) {d : Contents} → read_as a c ≡ Ok d → (a ≡ Done) × (c ≡ d)
+fields-only (Ok _) c e = (refl, cc)
+fields-only (Err r) c e = let z : ◌≡◌ {A = ℕ} 0 1 = cc in absurd (omega arith)
 
 -- a reader that answers with contents refuses nothing
-pub read-accepts : (s : List ℕ) {c : Contents} → reading (level_at FIRST) s ≡ Fields c → (first_of (bundle_tests (level_at FIRST) s) ≡ Done) × (record { n = (key_of s).n; m = (key_of s).m; groups = length (starts (level_at FIRST) s) } ≡ c)
+pub read-accepts : (s : List ℕ) {c : Contents} → reading (level_at FIRST) s ≡ Ok c → (first_of (bundle_tests (level_at FIRST) s) ≡ Done) × (record { n = (key_of s).n; m = (key_of s).m; groups = length (starts (level_at FIRST) s) } ≡ c)
 read-accepts s e = fields-only (first_of (bundle_tests (level_at FIRST) s)) (record { n = (key_of s).n; m = (key_of s).m; groups = length (starts (level_at FIRST) s) }) e

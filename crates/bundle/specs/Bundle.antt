@@ -1,5 +1,7 @@
 -- Bundles of any bytes: where their groups start, the tests of each, and what they say. "A bundle has the key fields once, then one or more
 -- groups of 05, 06, 07 with serials strictly rising."
+use Rattle.refusal.specs.declared.Refusal.{Refusal}
+use Rattle.refusal.specs.declared.Refusal.TheVariants.{SerialOrder}
 use Rattle.std.specs.Prelude.{Bool, cond, List, [], ◌∷◌, ◌++◌, map, ℕ, zero, suc, ◌+◌, ltb, length}
 use Rattle.lists.specs.Words.{part}
 use Rattle.field.specs.declared.Level.{Level}
@@ -29,15 +31,15 @@ module _ (l : Level) (key : Key) (s : List ℕ) where
 
   -- field 05: P1 to P5, and 20 "when a group's serial isn't above the one before, at the place of values of that field": when it is below low,
   -- which is one more than the serial before, and 0 in the first group
-  abbrev pub serial_tests : (low at : ℕ) → List (Bool × ℕ)
-  serial_tests low at = tests l s at (serial_row s at ∷ []) ++ (ltb (group_at at).serial low, 20) ∷ []
+  abbrev pub serial_tests : (low at : ℕ) → List (Bool × Refusal)
+  serial_tests low at = tests l s at (serial_row s at ∷ []) ++ (ltb (group_at at).serial low, SerialOrder) ∷ []
 
   -- then those of fields 06 and 07
-  abbrev pub group_tests : (low at : ℕ) → List (Bool × ℕ)
+  abbrev pub group_tests : (low at : ℕ) → List (Bool × Refusal)
   group_tests low at = serial_tests low at ++ tests l s (after at (serial_row s at ∷ [])) (proof_rows l key)
 
   -- for each group in turn
-  unfoldable pub groups_tests : (low : ℕ) (starts : List ℕ) → List (Bool × ℕ)
+  unfoldable pub groups_tests : (low : ℕ) (starts : List ℕ) → List (Bool × Refusal)
   groups_tests low [] = []
   groups_tests low (at ∷ starts) = group_tests low at ++ groups_tests ((group_at at).serial + 1) starts
 
@@ -47,7 +49,7 @@ module _ (l : Level) (s : List ℕ) where
   starts = starts_from l (key_of s) s (suc (length s)) (key_end l s)
 
   -- the key fields as in a package, then each group
-  abbrev pub bundle_tests : List (Bool × ℕ)
+  abbrev pub bundle_tests : List (Bool × Refusal)
   bundle_tests = key_tests l s ++ groups_tests l (key_of s) s 0 starts
 
   -- what its key fields and its groups say

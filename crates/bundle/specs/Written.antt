@@ -1,12 +1,10 @@
 -- Bundles written by concatenation, without the reader, and what the reader owes to them.
-use Rattle.std.specs.Prelude.{◌≡◌, List, [], ◌∷◌, ◌++◌, ℕ, ◌+◌, ◌≤◌, ◌<◌, length}
+use Rattle.std.specs.Prelude.{◌≡◌, List, [], ◌∷◌, ◌++◌, ℕ, ◌+◌, ◌≤◌, ◌<◌, length, Ok}
 use Rattle.copying.specs.Words.{Bytes}
-use Rattle.refusal.specs.Answer.{first_of}
-use Rattle.refusal.specs.declared.Answer.TheVariants.{Done}
+use Rattle.refusal.specs.Answer.{first_of, Done}
 use Rattle.field.specs.declared.Level.{Level}
 use Rattle.key.specs.declared.Key.{Key}
 use Rattle.package.specs.Written.{joined, KeyData, Group, key_fields, group_fields, ValidKey, ValidGroup}
-use Rattle.bundle.specs.declared.Read.TheVariants.{Fields}
 use Rattle.bundle.specs.Bundle.{bundle_tests, key_data_of, groups_of}
 use Rattle.bundle.specs.Reading.{reading}
 
@@ -53,7 +51,7 @@ module _ (l : Level) where
   -- answers their n, m and number, and the bytes say them; no two bundles are written alike
   pub record Faithful : Type 0 where
     pub accepted : (s : List ℕ) → Bytes s → Accepted s → ValidBundle l (said s) × (s ≡ written (said s))
-    pub read : (b : Bundle) → ValidBundle l b → reading l (written b) ≡ Fields (record { n = b.key.sizes.n; m = b.key.sizes.m; groups = length b.groups })
+    pub read : (b : Bundle) → ValidBundle l b → reading l (written b) ≡ Ok (record { n = b.key.sizes.n; m = b.key.sizes.m; groups = length b.groups })
     pub says : (b : Bundle) → ValidBundle l b → said (written b) ≡ b
     pub bytes : (b : Bundle) → ValidBundle l b → Bytes (written b)
     pub injective : (b c : Bundle) → ValidBundle l b → ValidBundle l c → written b ≡ written c → b ≡ c

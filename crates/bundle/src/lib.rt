@@ -14,46 +14,28 @@ ghost use Rattle.bundle.specs.Reading.{number_of, reading, found};
 
 use field::FIRST;
 use key::Key;
-use layout::Step;
 use refusal::Refusal;
 
 // What a bundle says of itself.
-#[derive(Clone, Copy)]
+#[derive(Clone, Copy, Debug, PartialEq, Eq)]
 pub struct Contents {
     pub n: usize,
     pub m: usize,
     pub groups: usize,
 }
 
-// The answer of read_bundle.
-#[derive(Clone, Copy)]
-pub enum Read {
-    Fields(Contents),
-    Refused(Refusal),
-}
-
 // Where the groups of a bundle start, and how many they are.
-#[derive(Clone, Copy)]
+#[derive(Clone, Copy, Debug, PartialEq, Eq)]
 pub struct Groups {
     pub start: usize,
     pub number: usize,
 }
 
-// The groups, or the refusal.
-#[derive(Clone, Copy)]
-pub enum Found {
-    Whole(Groups),
-    Refused(Refusal),
-}
-
-// The answer's number: 0 for Fields, else the refusal's.
-pub fn number(answer: Read) -> u32
+// The answer's number: 0 for contents, else the refusal's.
+pub fn number(answer: Result<Contents, Refusal>) -> u32
     ensures { result ≡ number_of answer }
 {
-    match answer {
-        Read::Fields(_) => 0,
-        Read::Refused(refusal) => refusal.number,
-    }
+    refusal::number(answer)
 }
 
 // The serial of the group at a position.
@@ -77,30 +59,28 @@ pub fn group_end(s: &[u8], key: Key, at: usize) -> usize
 }
 
 // The field of a serial at a position, which is no less than low: where it ends, or the refusal.
-fn read_serial(s: &[u8], at: usize, low: usize) -> Step
+fn read_serial(s: &[u8], at: usize, low: usize) -> Result<usize, Refusal>
     ensures { (key : Key) → result ≡ stepped (first_of (serial_tests (level_at FIRST) key s.now low at)) (after at (serial_row s.now at ∷ [])) }
 {
-    let step = layout::read_serial(s, at);
-    if let Step::Refused(_) = step {
-        return step;
-    }
+    let end = layout::read_serial(s, at)?;
     if (serial_at(s, at) as usize) < low {
-        Step::Refused(Refusal::SERIAL_ORDER)
+        Err(Refusal::SerialOrder)
     } else {
-        step
+        Ok(end)
     }
 }
 
 // The group at a position, whose serial is no less than low: where it ends, or the refusal.
-fn read_group(s: &[u8], key: Key, at: usize, low: usize) -> Step
+fn read_group(s: &[u8], key: Key, at: usize, low: usize) -> Result<usize, Refusal>
     requires { Sized (level_at FIRST) key }
     ensures { result ≡ stepped (first_of (group_tests (level_at FIRST) key s.now low at)) (group_end (level_at FIRST) key s.now at) }
 {
-    layout::read_proof(s, key, read_serial(s, at, low))
+    let at = read_serial(s, at, low)?;
+    layout::read_proof(s, key, at)
 }
 
 // The groups from a position to the end: how many they are, or the refusal.
-pub fn read_groups(s: &[u8], key: Key, start: usize) -> Found
+pub fn read_groups(s: &[u8], key: Key, start: usize) -> Result<Groups, Refusal>
     requires { Sized (level_at FIRST) key }
     ensures { result ≡ found (first_of (groups_tests (level_at FIRST) key s.now 0 (starts_from (level_at FIRST) key s.now (suc (length s.now)) start))) start (length (starts_from (level_at FIRST) key s.now (suc (length s.now)) start)) }
 {
@@ -108,45 +88,33 @@ pub fn read_groups(s: &[u8], key: Key, start: usize) -> Found
     let mut low = 0;
     let mut number = 0;
     loop {
-        let step = read_group(s, key, at, low);
-        match step {
-            Step::Refused(refusal) => return Found::Refused(refusal),
-            Step::Next(end) => {
-                number += 1;
-                if s.len() <= end {
-                    return Found::Whole(Groups { start, number });
-                }
-                low = serial_at(s, at) as usize + 1;
-                at = end;
-            }
+        let end = read_group(s, key, at, low)?;
+        number += 1;
+        if s.len() <= end {
+            return Ok(Groups { start, number });
         }
+        low = serial_at(s, at) as usize + 1;
+        at = end;
     }
 }
 
 // All fields of a bundle: its groups, or the refusal.
-pub fn walk(bytes: &[u8]) -> Found
+pub fn walk(bytes: &[u8]) -> Result<Groups, Refusal>
     ensures { result ≡ found (first_of (bundle_tests (level_at FIRST) bytes.now)) (key_end (level_at FIRST) bytes.now) (length (starts (level_at FIRST) bytes.now)) }
 {
-    let step = layout::read_key(bytes);
-    match step {
-        Step::Refused(refusal) => Found::Refused(refusal),
-        Step::Next(at) => read_groups(bytes, layout::key_at(bytes, layout::HEAD), at),
-    }
+    let at = layout::read_key(bytes)?;
+    read_groups(bytes, layout::key_at(bytes, layout::HEAD), at)
 }
 
 // n, m and the number of groups of a bundle, or the refusal.
-pub fn read_bundle(bytes: &[u8]) -> Read
+pub fn read_bundle(bytes: &[u8]) -> Result<Contents, Refusal>
     ensures { result ≡ reading (level_at FIRST) bytes.now }
 {
-    match walk(bytes) {
-        Found::Refused(refusal) => Read::Refused(refusal),
-        Found::Whole(groups) => {
-            let key = layout::key_at(bytes, layout::HEAD);
-            Read::Fields(Contents {
-                n: key.n,
-                m: key.m,
-                groups: groups.number,
-            })
-        }
-    }
+    let groups = walk(bytes)?;
+    let key = layout::key_at(bytes, layout::HEAD);
+    Ok(Contents {
+        n: key.n,
+        m: key.m,
+        groups: groups.number,
+    })
 }

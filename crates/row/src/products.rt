@@ -108,8 +108,7 @@ pub fn value_tree(
 {
     elements::put(buf, 0, Element::one(level), level);
     let mut h: usize = 1;
-    for t in 0..d {
-        let k = at + (d - 1 - t);
+    for k in (at..at + d).rev() {
         let w = bits[k] as u64;
         let q = elements::get(numbers, k, level);
         let complement = 1 - w;

@@ -1,4 +1,4 @@
-use Rattle.std.proofs.Common.{◌+◌, ◌<◌, refl, ◌∙◌, arith}
+use Rattle.std.proofs.Common.{◌+◌, refl, ◌∙◌, arith}
 use Rattle.field.specs.Level.{level_at, K}
 use Rattle.row.specs.Elements.{el}
 use Rattle.checkzero.proofs.Laws.{mask-none, mask_more}

@@ -1,13 +1,8 @@
-use Rattle.std.proofs.Common.{◌≡◌, eqb, ℕ, ◌+◌, ◌-◌, ◌*◌, length}
+use Rattle.std.proofs.Common.{◌+◌}
 use Rattle.field.specs.Level.{level_at, K}
-use Rattle.field.specs.Packed.{Holds, Multiplies}
-use Rattle.field.specs.Word.{is_zero, Words}
-use Rattle.row.specs.Elements.{el, value_of}
+use Rattle.row.specs.Elements.{el}
 use Rattle.row.specs.Step.{Step, Added}
 use Rattle.checkzero.specs.CheckZero.{mask}
-use Rattle.checkzero.specs.Slices.{every}
-use Rattle.checkzero.specs.Steps.{AtMask}
-use Rattle.checkzero.proofs.Laws.{above}
 use Rattle.checkzero.proofs.add_masks.Given as goal
 
 abbrev pub invariant-loop-k : goal.invariant-loop-k

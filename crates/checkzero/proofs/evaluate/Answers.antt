@@ -1,4 +1,4 @@
-use Rattle.std.proofs.Common.{◌≡◌, suc, ◌-◌, ◌<◌, subst, sym, arith}
+use Rattle.std.proofs.Common.{◌≡◌, suc, ◌-◌, subst, sym, arith}
 use Rattle.field.specs.Level.{level_at, K}
 use Rattle.field.specs.Packed.{Holds}
 use Rattle.row.specs.Elements.{el, value_of}

@@ -1,4 +1,4 @@
-use Rattle.std.proofs.Common.{◌+◌, ◌-◌, ap, ◌∙◌, arith}
+use Rattle.std.proofs.Common.{◌-◌, ap, ◌∙◌, arith}
 use Rattle.field.specs.Level.{level_at, K}
 use Rattle.row.specs.Elements.{el}
 use Rattle.row.specs.Lent.{small_of}

@@ -11,7 +11,9 @@ use Rattle.layout.specs.declared.Row.{Row}
 use Rattle.layout.specs.Layout.{check_file_rows}
 use Rattle.layout.specs.Tests.{part_of}
 use Rattle.layout.specs.Steps.{Whole}
-use Rattle.package.specs.declared.Read.{Read}
+use Rattle.std.specs.Prelude.{Result}
+use Rattle.refusal.specs.declared.Refusal.{Refusal}
+use Rattle.package.specs.declared.Contents.{Contents}
 use Rattle.package.specs.Reading.{part_if, check_file_reader, reading, IsPart}
 use Rattle.package.proofs.Accepted.{check_file_whole}
 use Rattle.package.specs.Written.{check_form}
@@ -25,5 +27,5 @@ content-is r s tag e f =
     (f (level_at FIRST) rows (check_file_whole (level_at FIRST) s.now e)).bytes
     ∙ ap (λ a. let p = part_if a (part_of tag 0 rows) in part p.start p.len s.now) (sym e)
 
-pub told : (s : List ℕ) {r : Read} {v : Verdict} → r ≡ reading (check_file_reader (level_at FIRST)) s → v ≡ verdict_of (level_at FIRST) (key_data_of (check_form (level_at FIRST)) s) (group_of (check_form (level_at FIRST)) s) (check_of (level_at FIRST) s) → answered r v ≡ checking (level_at FIRST) s
+pub told : (s : List ℕ) {r : Result Contents Refusal} {v : Result Verdict Refusal} → r ≡ reading (check_file_reader (level_at FIRST)) s → v ≡ verdict_of (level_at FIRST) (key_data_of (check_form (level_at FIRST)) s) (group_of (check_form (level_at FIRST)) s) (check_of (level_at FIRST) s) → answered r v ≡ checking (level_at FIRST) s
 told s e f = ap₂ answered e f

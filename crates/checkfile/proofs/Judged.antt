@@ -8,13 +8,14 @@ use Rattle.lists.proofs.Lent.{Long, long-each}
 use Rattle.copying.specs.Words.{Bytes}
 use Rattle.refusal.specs.Answer.{first_of, Done}
 use Rattle.refusal.specs.declared.Verdict.{Verdict}
-use Rattle.refusal.specs.declared.Verdict.TheVariants as verdict
+use Rattle.refusal.specs.declared.Refusal.{Refusal}
+use Rattle.refusal.specs.declared.Verdict.TheVariants.{Accepted, Rejected}
+use Rattle.std.specs.Prelude.{Result, Ok, Err}
 use Rattle.field.specs.Level.{FIRST, level_at}
 use Rattle.key.specs.declared.Code.TheVariants.{Column}
 use Rattle.key.specs.Key.{lengths, below, withins}
 use Rattle.key.proofs.Checked.{checked-done}
 use Rattle.package.specs.declared.Contents.{Contents}
-use Rattle.package.specs.declared.Read.TheVariants.{Fields}
 use Rattle.package.specs.Reading.{check_file_reader, reading}
 use Rattle.package.specs.Written.{KeyData, Group, Check, check_form}
 use Rattle.package.proofs.Accepted.{read-accepts}
@@ -22,7 +23,7 @@ use Rattle.package.proofs.Opening.{valid-stands}
 use Rattle.package.proofs.Forms.{check_file_faithful}
 use Rattle.verifier.specs.Entry.{verify_lent}
 use Rattle.verifier.proofs.Judged as verifier
-use Rattle.checkfile.specs.declared.Checked.TheVariants.{Accepted, Rejected}
+use Rattle.checkfile.specs.declared.Checked.{Checked}
 use Rattle.package.specs.Said.{key_data_of, group_of}
 use Rattle.checkfile.specs.Checking.{check_of, verdict_of, answered, checking}
 use Rattle.checkfile.specs.Judged.{verify_tests, Judged, Checks}
@@ -47,35 +48,38 @@ never_refused k g c v =
       positions-fine = refl;
     })
 
+-- what checking answers of a file that is read, with this verdict
+abbrev with_verdict : Contents → Verdict → Result Checked Refusal
+with_verdict c v = Ok (record { contents = c; verdict = v })
+
+-- the verdict of an answer, Rejected where there is none
+abbrev verdict_in : Result Checked Refusal → Verdict
+verdict_in (Ok k) = k.verdict
+verdict_in (Err r) = Rejected
+
 -- an answer with contents tells the verdict
-accepted_verdict : (c : Contents) (v : Verdict) → answered (Fields c) v ≡ Accepted c → v ≡ verdict.Accepted
-accepted_verdict c verdict.Accepted e = refl
-accepted_verdict c verdict.Rejected e = let z : ◌≡◌ {A = ℕ} 0 1 = cc in absurd (omega arith)
-accepted_verdict c (verdict.Err r) e = let z : ◌≡◌ {A = ℕ} 0 1 = cc in absurd (omega arith)
+told_verdict : (c : Contents) (w : Verdict) (v : Result Verdict Refusal) → answered (Ok c) v ≡ with_verdict c w → v ≡ Ok w
+told_verdict c w (Ok v) e = λ i. Ok (ap verdict_in e i)
+told_verdict c w (Err r) e = let z : ◌≡◌ {A = ℕ} 0 1 = cc in absurd (omega arith)
 
-rejected_verdict : (c : Contents) (v : Verdict) → answered (Fields c) v ≡ Rejected c → v ≡ verdict.Rejected
-rejected_verdict c verdict.Accepted e = let z : ◌≡◌ {A = ℕ} 0 1 = cc in absurd (omega arith)
-rejected_verdict c verdict.Rejected e = refl
-rejected_verdict c (verdict.Err r) e = let z : ◌≡◌ {A = ℕ} 0 1 = cc in absurd (omega arith)
-
-pub judged : (s : List ℕ) → Bytes s → (c : Contents) → reading (check_file_reader (level_at FIRST)) s ≡ Fields c → Judged (level_at FIRST) s c
+pub judged : (s : List ℕ) → Bytes s → (c : Contents) → reading (check_file_reader (level_at FIRST)) s ≡ Ok c → Judged (level_at FIRST) s c
 judged s b c e =
     let k = key_data_of (check_form (level_at FIRST)) s in
     let g = group_of (check_form (level_at FIRST)) s in
     let h = check_of (level_at FIRST) s in
     let v = verdict_of (level_at FIRST) k g h in
     let done = never_refused k g h (within-limits s b (read-accepts (check_file_reader (level_at FIRST)) s e).0) in
-    let is : checking (level_at FIRST) s ≡ answered (Fields c) v = ap (λ r. answered r v) e in
+    let is : checking (level_at FIRST) s ≡ answered (Ok c) v = ap (λ r. answered r v) e in
     let w = verifier.told FIRST k.sizes k.slices g.t h.q h.delta h.masks h.alpha g.a refl refl refl refl refl in
     record {
       never_refused = done;
       accepted = (
-        λ a. (w.1.1.accepted.0 (w.0 ∙ accepted_verdict c v (sym is ∙ a))).1,
-        λ holds. is ∙ ap (answered (Fields c)) (sym w.0 ∙ w.1.1.accepted.1 (done, holds)),
+        λ a. (w.1.1.accepted.0 (w.0 ∙ told_verdict c Accepted v (sym is ∙ a))).1,
+        λ holds. is ∙ ap (answered (Ok c)) (sym w.0 ∙ w.1.1.accepted.1 (done, holds)),
       );
       rejected = (
-        λ a. (w.1.1.rejected.0 (w.0 ∙ rejected_verdict c v (sym is ∙ a))).1,
-        λ fails. is ∙ ap (answered (Fields c)) (sym w.0 ∙ w.1.1.rejected.1 (done, fails)),
+        λ a. (w.1.1.rejected.0 (w.0 ∙ told_verdict c Rejected v (sym is ∙ a))).1,
+        λ fails. is ∙ ap (answered (Ok c)) (sym w.0 ∙ w.1.1.rejected.1 (done, fails)),
       );
     }
 

@@ -11,6 +11,8 @@ use lib.Seq.{get_or-append_seam, take_at, length-take-le}
 use Rattle.lists.specs.Words.{put}
 use Rattle.lists.proofs.Words.{put_pasted}
 use Rattle.copying.proofs.Filled.{paste_more, Stands, stands-next, first-stands}
+use Rattle.std.specs.Prelude.{Result}
+use Rattle.refusal.specs.declared.Refusal.{Refusal}
 use Rattle.checkfile.specs.declared.Checked.{Checked}
 use Rattle.checkfile.specs.Line.{line_of, printed}
 
@@ -31,17 +33,17 @@ pub six : (a b c d e f : List ℕ) → a ++ b ++ c ++ d ++ e ++ f ≡ a ++ (b ++
 six a b c d e f = simp (append_assoc, append-nil)
 
 -- a line at the start of s, where s has room
-pub line_printed : (checked : Checked) {s u : List ℕ} {r : ℕ} → Stands s 0 (line_of checked) u r → 96 ≤ length s → (r, u) ≡ printed checked s
+pub line_printed : (checked : Result Checked Refusal) {s u : List ℕ} {r : ℕ} → Stands s 0 (line_of checked) u r → 96 ≤ length s → (r, u) ≡ printed checked s
 line_printed checked {s} {u} w h =
     let line = line_of checked in
     let is = first-stands w in
     ap₂ (λ (k : ℕ) (t : List ℕ). (k, t)) is.1 is.0 ∙ sym (ap (λ b. cond b (0, s) (length line, line ++ drop (length line) s)) (le-ltb (length s) 96 h))
 
-pub line_short : (checked : Checked) (s : List ℕ) → length s < 96 → (0, s) ≡ printed checked s
+pub line_short : (checked : Result Checked Refusal) (s : List ℕ) → length s < 96 → (0, s) ≡ printed checked s
 line_short checked s h = let line = line_of checked in sym (ap (λ b. cond b (0, s) (length line, line ++ drop (length line) s)) (lt-ltb (length s) 96 h))
 
 -- no more bytes are counted than there are
-pub printed-fits : (checked : Checked) (s : List ℕ) {u : List ℕ} {r : ℕ} → (r, u) ≡ printed checked s → ((r, u) ≡ printed checked s) × ((r ≤ length u) × (r ≡ length (take r u)))
+pub printed-fits : (checked : Result Checked Refusal) (s : List ℕ) {u : List ℕ} {r : ℕ} → (r, u) ≡ printed checked s → ((r, u) ≡ printed checked s) × ((r ≤ length u) × (r ≡ length (take r u)))
 printed-fits checked s {u} {r} e = let h = subst (λ (p : ℕ × List ℕ). p.0 ≤ length p.1) (sym e) (either (ltb (length s) 96)) in (e, (h, sym (length-take-le r u h)))
   where
     line : List ℕ

@@ -164,7 +164,7 @@ fn put_contents(contents: Contents, out: &mut [u8]) -> usize
     ensures { (out.new ≡ put 0 (said_of contents) out.old) × (result ≡ length (said_of contents)) × (result ≤ 74) }
 {
     let at = put_text(b"serial", b' ', 0, out);
-    let at = put_number(u64::from(contents.serial), b' ', at, out);
+    let at = put_number(contents.serial as u64, b' ', at, out);
     let at = put_text(b"n", b' ', at, out);
     let at = put_number(contents.n as u64, b' ', at, out);
     let at = put_text(b"m", b' ', at, out);
@@ -189,7 +189,7 @@ pub fn line(checked: Result<Checked, Refusal>, out: &mut [u8]) -> usize
         }
         Err(refusal) => {
             let at = put_text(b"refused", b' ', 0, out);
-            put_number(u64::from(refusal.number()), b'\n', at, out)
+            put_number(refusal.number() as u64, b'\n', at, out)
         }
     }
 }

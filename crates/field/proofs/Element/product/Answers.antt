@@ -1,4 +1,4 @@
-use Rattle.std.proofs.Common.{◌≡◌, ℕ, ◌+◌, ◌-◌, ◌*◌, ◌≤◌, ◌<◌, length, rules, arith}
+use Rattle.std.proofs.Common.{◌≡◌, ℕ, ◌-◌, ◌*◌, ◌≤◌, length, rules, arith}
 use lib.ListN.{length-replicate}
 use Rattle.field.specs.Level.{level_at}
 use Rattle.field.specs.Packed.{room}

@@ -1,7 +1,6 @@
-use Rattle.std.proofs.Common.{◌*◌, ◌≤◌, arith}
+use Rattle.std.proofs.Common.{arith}
 use Rattle.field.specs.Level.{level_at, K}
-use Rattle.field.specs.Ring.{Ring}
-use Rattle.field.specs.Packed.{Holds, room}
+use Rattle.field.specs.Packed.{Holds}
 use Rattle.field.proofs.Named.{of_first, of_second}
 use Rattle.field.proofs.Element.times.Goals as goal
 

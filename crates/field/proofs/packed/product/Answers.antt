@@ -1,8 +1,7 @@
-use Rattle.std.proofs.Common.{◌≡◌, ℕ, suc, ◌+◌, ◌-◌, ◌≤◌, ◌<◌, length, sym, ap, ◌∙◌, subst, arith}
+use Rattle.std.proofs.Common.{◌≡◌, suc, ◌-◌, ◌<◌, sym, ap, ◌∙◌, subst, arith}
 use lib.ListN.{replicate}
 use Rattle.field.specs.declared.Level.{Level}
 use Rattle.field.specs.Level.{level_at, K}
-use Rattle.field.specs.Ring.{Ring}
 use Rattle.field.specs.Packed.{Holds, room}
 use Rattle.field.proofs.Rooms.{room_most}
 use Rattle.field.proofs.Elements.{turn, turn_lt, rest, rest-start, rest_end, holds-zero, holds-plus}

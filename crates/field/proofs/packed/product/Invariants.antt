@@ -1,5 +1,4 @@
 use Rattle.field.specs.Level.{level_at, K}
-use Rattle.field.specs.Ring.{Ring}
 use Rattle.field.specs.Packed.{Holds, Tabulates}
 use Rattle.field.proofs.Elements.{rest}
 use Rattle.field.proofs.packed.product.Given as goal

@@ -1,8 +1,7 @@
-use Rattle.std.proofs.Common.{◌≡◌, ℕ, suc, ◌+◌, ◌-◌, ◌*◌, ◌≤◌, ◌<◌, length, drop, sym, ap, ◌∙◌, subst, arith}
+use Rattle.std.proofs.Common.{◌≡◌, ℕ, suc, ◌+◌, ◌-◌, ◌*◌, ◌≤◌, ◌<◌, drop, sym, ap, ◌∙◌, subst, arith}
 use native.Mathlib.Nat.{zero-add}
 use Rattle.field.specs.declared.Level.{Level}
 use Rattle.field.specs.Level.{embed, level_at, K}
-use Rattle.field.specs.Ring.{Ring, Hom}
 use Rattle.field.specs.Word.{small}
 use Rattle.field.specs.Packed.{Holds, room, combined}
 use Rattle.field.proofs.Rooms.{inside, most, room_pos}

@@ -1,6 +1,5 @@
 use Rattle.std.proofs.Common.{ℕ, ◌*◌, ◌<◌, drop}
 use Rattle.field.specs.Level.{level_at, K}
-use Rattle.field.specs.Ring.{Ring}
 use Rattle.field.specs.Packed.{Holds, room}
 use Rattle.field.proofs.PartLaws.{later}
 use Rattle.field.proofs.packed.total.Given as goal

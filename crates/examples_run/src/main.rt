@@ -403,6 +403,15 @@ fn limits<F: Fn(&mut Example, u16)>(rt: &impl Print, name: &str, set: F) -> io::
     Ok(())
 }
 
+// The positions 0 to 63.
+fn columns() -> [u8; 64] {
+    let mut positions = [0u8; 64];
+    for (position, i) in positions.iter_mut().zip(0..64u8) {
+        *position = i;
+    }
+    positions
+}
+
 // H for n = 64 and m = 63: one at column e of row e, and zero elsewhere.
 fn units() -> [u16; 4032] {
     let mut h = [0u16; 4032];
@@ -414,10 +423,6 @@ fn units() -> [u16; 4032] {
 
 // n = 64, m = 63: x, y and u are zero, positions 0 to 63, and v and the weights have two words that are not zero.
 fn largest(rt: &impl Print) -> io::Result<()> {
-    let mut positions = [0u8; 64];
-    for (position, i) in positions.iter_mut().zip(0..64u8) {
-        *position = i;
-    }
     let mut v = [0u16; 4608];
     v[0] = 1;
     v[4596] = 2;
@@ -435,7 +440,7 @@ fn largest(rt: &impl Print) -> io::Result<()> {
         alpha: &alpha,
     };
     let prover = Prover {
-        positions: &positions,
+        positions: &columns(),
         u: &[0; 384],
         v: &v,
         r: &masks,

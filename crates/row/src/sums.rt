@@ -63,19 +63,12 @@ pub fn share(dst: &mut [u16], src: &[u16], s: usize, matrix: &Matrix<'_>, i: usi
     requires { Words (level_at matrix.now.level) dst.old × Words (level_at matrix.now.level) src.now × (i < matrix.now.n) × Fits (level_at matrix.now.level) (s * matrix.now.n + s * matrix.now.m) (length dst.old) × Fits (level_at matrix.now.level) (s * matrix.now.n) (length src.now) }
     ensures { Step (level_at matrix.now.level) dst.old dst.new (λ f g. Shared (K (level_at matrix.now.level)) f g matrix.now.n matrix.now.m s (λ j k. el (level_at matrix.now.level) src.now (s * j + k)) (small_of (level_at matrix.now.level) matrix.now.x.now) (λ e. entry_of (level_at matrix.now.level) matrix.now.n matrix.now.h.now e i)) }
 {
-    let Matrix {
-        n,
-        m,
-        level,
-        h,
-        x,
-        ..
-    } = *matrix;
+    let Matrix { n, m, level, .. } = *matrix;
     let count = s * n;
     add(dst, src, count, level);
     for k in 0..s {
-        let total = mix(src, 0, s, k, x, n, level);
-        spread(dst, count, s, k, total, h, n, m, i, level);
+        let total = mix(src, 0, s, k, matrix.x, n, level);
+        spread(dst, count, s, k, total, matrix.h, n, m, i, level);
     }
 }
 

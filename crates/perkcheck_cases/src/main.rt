@@ -42,6 +42,7 @@ fn check_named<R: Env + Files + Print>(rt: &R, errors: &impl Print, i: usize) ->
     Ok(true)
 }
 
+// The arguments by their numbers, since std's args allocates.
 fn main(rt: HostRuntime) -> io::Result<()> {
     for i in 1..usize::MAX {
         if !check_named(&rt, &rt.stderr(), i)? {

@@ -5,7 +5,7 @@ ghost use Rattle.std.specs.Prelude.{◌≡◌, [], ◌∷◌, ℕ, ◌+◌, ◌*
 ghost use Rattle.lists.specs.Words.{put};
 ghost use Rattle.lists.specs.Lent.{long};
 ghost use Rattle.copying.specs.Words.{two_bytes, word_bytes};
-ghost use Rattle.refusal.specs.Answer.{first_of, Done};
+ghost use Rattle.refusal.specs.Answer.{first_of};
 ghost use Rattle.field.specs.Level.{FIRST, level_at};
 ghost use Rattle.key.specs.declared.Key.{Key};
 ghost use Rattle.key.specs.Key.{Sized, slices_of, lengths};

@@ -1,6 +1,6 @@
 -- What a look before the join tells, of the definitions.
-use Rattle.std.specs.Prelude.{Err}
-use Rattle.refusal.specs.declared.Refusal.TheVariants.{ShortOutput}
+use Rattle.std.specs.Prelude.{Err, Ok, Result}
+use Rattle.refusal.specs.declared.Refusal.TheVariants.{SizeN, SizeM, SliceLength, KeyElement, Bit, Coordinate, Position, Top, BytesMissing, Tag, FieldLength, BytesFollow, ShortOutput, ZeroTarget, DependentRows, SpareCode, LongSerial, SerialOrder, OtherKey, GroupsDiffer}
 use mathlib.Core.Path.{◌≡◌, refl, sym, ap, ◌∙◌}
 use mathlib.Core.Bool.{Bool, true, false, cond}
 use mathlib.Core.List.{List, [], ◌∷◌, ◌++◌}
@@ -10,21 +10,17 @@ use borrow.Author.Tests.{ltb-true}
 use lib.Dec.{ltb}
 use lib.ListN.{length, drop}
 use Rattle.copying.specs.Words.{Bytes}
-use Rattle.refusal.specs.Answer.{first_of, room_row, Answer}
+use Rattle.refusal.specs.Answer.{Done, number, number_of, first_of, room_row, Answer}
 use Rattle.refusal.specs.declared.Refusal.{Refusal}
-use Rattle.refusal.specs.declared.Answer.TheVariants as answer
 use Rattle.refusal.proofs.Answers.{after-done, after-refused, both_done}
 use Rattle.field.specs.Level.{FIRST, level_at}
 use Rattle.package.specs.Written.{Group}
 use Rattle.bundle.specs.Bundle.{bundle_tests, groups_of}
 use Rattle.bundle.specs.Written.{written}
 use Rattle.joining.specs.declared.Size.{Size}
-use Rattle.joining.specs.declared.Joined.{Joined}
-use Rattle.joining.specs.declared.Joined.TheVariants as answered
 use Rattle.joining.specs.declared.Plan.{Plan}
-use Rattle.joining.specs.declared.Planned.TheVariants as plan
 use Rattle.joining.specs.Union.{insert, union}
-use Rattle.joining.specs.Entry.{number_of, size_as, joined_bundle, join_checks, join_rows, join_answer, join_outcome}
+use Rattle.joining.specs.Entry.{size_as, joined_bundle, join_checks, join_rows, join_answer, join_outcome}
 use Rattle.joining.specs.Laws.{LookLaws}
 use Rattle.joining.specs.Steps.{planned}
 use Rattle.joining.proofs.Count.{weight, size, weight-size}
@@ -32,25 +28,48 @@ use Rattle.joining.proofs.Outcome.{size_of, joined-size, size_same, plan_refused
 use Rattle.joining.proofs.Numbers.{checks_others, room-left}
 
 -- which answer a size or a refusal comes from
-size_from : (a : Answer) (n g : ℕ) {z : Size} → size_as a n g ≡ answered.Size z → (a ≡ answer.Done) × (z ≡ record { length = n; groups = g })
-size_from answer.Done n g e = (refl, sym (size_same e))
-size_from (answer.Err r) n g e = let z : ◌≡◌ {A = ℕ} 0 1 = cc in absurd (omega arith)
+size_from : (a : Answer) (n g : ℕ) {z : Size} → size_as a n g ≡ Ok z → (a ≡ Done) × (z ≡ record { length = n; groups = g })
+size_from (Ok _) n g e = (refl, sym (size_same e))
+size_from (Err r) n g e = let z : ◌≡◌ {A = ℕ} 0 1 = cc in absurd (omega arith)
 
-refused_from : (a : Answer) (n g : ℕ) {k : Refusal} → size_as a n g ≡ answered.Err k → a ≡ answer.Err k
-refused_from answer.Done n g e = let z : ◌≡◌ {A = ℕ} 0 1 = cc in absurd (omega arith)
-refused_from (answer.Err r) n g e = cc
+refused_from : (a : Answer) (n g : ℕ) {k : Refusal} → size_as a n g ≡ Err k → a ≡ Err k
+refused_from (Ok _) n g e = let z : ◌≡◌ {A = ℕ} 0 1 = cc in absurd (omega arith)
+refused_from (Err r) n g e = cc
+
+-- the refusal with 13
+room_number : (r : Refusal) → number r ≡ 13 → r ≡ ShortOutput
+room_number SizeN e = absurd (omega (arith, e))
+room_number SizeM e = absurd (omega (arith, e))
+room_number SliceLength e = absurd (omega (arith, e))
+room_number KeyElement e = absurd (omega (arith, e))
+room_number Bit e = absurd (omega (arith, e))
+room_number Coordinate e = absurd (omega (arith, e))
+room_number Position e = absurd (omega (arith, e))
+room_number Top e = absurd (omega (arith, e))
+room_number BytesMissing e = absurd (omega (arith, e))
+room_number Tag e = absurd (omega (arith, e))
+room_number FieldLength e = absurd (omega (arith, e))
+room_number BytesFollow e = absurd (omega (arith, e))
+room_number ShortOutput e = refl
+room_number ZeroTarget e = absurd (omega (arith, e))
+room_number DependentRows e = absurd (omega (arith, e))
+room_number SpareCode e = absurd (omega (arith, e))
+room_number LongSerial e = absurd (omega (arith, e))
+room_number SerialOrder e = absurd (omega (arith, e))
+room_number OtherKey e = absurd (omega (arith, e))
+room_number GroupsDiffer e = absurd (omega (arith, e))
 
 number_from : (a : Answer) (n g : ℕ) → number_of (size_as a n g) ≡ 13 → a ≡ (Err ShortOutput)
-number_from answer.Done n g e = absurd (omega (arith, e))
-number_from (answer.Err r) n g e = ap Err e
+number_from (Ok _) n g e = absurd (omega (arith, e))
+number_from (Err r) n g e = ap Err (room_number r e)
 
 -- the last row alone
-by_room : (b : Bool) (n g : ℕ) → size_as (first_of ((b, ShortOutput) ∷ [])) n g ≡ cond b (answered.Err (record { number = 13 })) (answered.Size (record { length = n; groups = g }))
+by_room : (b : Bool) (n g : ℕ) → size_as (first_of ((b, ShortOutput) ∷ [])) n g ≡ cond b (Err ShortOutput) (Ok (record { length = n; groups = g }))
 by_room true n g = refl
 by_room false n g = refl
 
-row_number : (b : Bool) {k : Refusal} → first_of ((b, ShortOutput) ∷ []) ≡ answer.Err k → k.number ≡ 13
-row_number true e = cc
+row_number : (b : Bool) {k : Refusal} → first_of ((b, ShortOutput) ∷ []) ≡ Err k → number k ≡ 13
+row_number true e = ap number_of (sym e)
 row_number false e = let z : ◌≡◌ {A = ℕ} 0 1 = cc in absurd (omega arith)
 
 row-true : (b : Bool) → first_of ((b, ShortOutput) ∷ []) ≡ (Err ShortOutput) → b ≡ true
@@ -68,22 +87,22 @@ module _ (s t : List ℕ) where
   abbrev C : List (Bool × Refusal)
   C = join_checks (level_at FIRST) s t
 
-  told : (room : ℕ) (size : Size) → join_answer (level_at FIRST) s t room ≡ answered.Size size → (other : ℕ) → join_answer (level_at FIRST) s t other ≡ cond (ltb other size.length) (answered.Err (record { number = 13 })) (answered.Size size)
+  told : (room : ℕ) (size : Size) → join_answer (level_at FIRST) s t room ≡ Ok size → (other : ℕ) → join_answer (level_at FIRST) s t other ≡ cond (ltb other size.length) (Err ShortOutput) (Ok size)
   told room size e other =
       let d = size_from (first_of (join_rows (level_at FIRST) s t room)) N G e in
       let done = (both_done C (room_row N room) d.0).0 in
       ap (λ a. size_as a N G) (after-done C (room_row N other) done) ∙ by_room (ltb other N) N G
-      ∙ ap (λ (z : Size). cond (ltb other z.length) (answered.Err (record { number = 13 })) (answered.Size z)) (sym d.1)
+      ∙ ap (λ (z : Size). cond (ltb other z.length) (Err ShortOutput) (Ok z)) (sym d.1)
 
-  refused : (room : ℕ) (k : Refusal) → join_answer (level_at FIRST) s t room ≡ answered.Err k → (k.number ≡ 13 → ⊥) → (other : ℕ) → join_answer (level_at FIRST) s t other ≡ answered.Err k
+  refused : (room : ℕ) (k : Refusal) → join_answer (level_at FIRST) s t room ≡ Err k → (number k ≡ 13 → ⊥) → (other : ℕ) → join_answer (level_at FIRST) s t other ≡ Err k
   refused room k e f other = go (first_of C) refl
     where
-      given : first_of (C ++ room_row N room) ≡ answer.Err k
+      given : first_of (C ++ room_row N room) ≡ Err k
       given = refused_from (first_of (join_rows (level_at FIRST) s t room)) N G e
 
-      go : (x : Answer) → first_of C ≡ x → join_answer (level_at FIRST) s t other ≡ answered.Err k
-      go answer.Done d = absurd (f (row_number (ltb room N) (sym (after-done C (room_row N room) d) ∙ given)))
-      go (answer.Err j) d = ap (λ a. size_as a N G) (sym (after-refused C (room_row N other) refl d) ∙ after-refused C (room_row N room) refl d ∙ given)
+      go : (x : Answer) → first_of C ≡ x → join_answer (level_at FIRST) s t other ≡ Err k
+      go (Ok _) d = absurd (f (row_number (ltb room N) (sym (after-done C (room_row N room) d) ∙ given)))
+      go (Err j) d = ap (λ a. size_as a N G) (sym (after-refused C (room_row N other) refl d) ∙ after-refused C (room_row N room) refl d ∙ given)
 
 -- joined groups weigh no more than both
 insert-weight : (w : Group → ℕ) (g : Group) (gs : List Group) → weight w (insert g gs) ≤ w g + weight w gs
@@ -117,24 +136,24 @@ unfolding join_outcome
 ahead first second out = refl
 
 -- what a plan says of the answer
-pub answer-refused : (s t : List ℕ) (room : ℕ) {k : Refusal} → planned (level_at FIRST) s t (first_of (join_rows (level_at FIRST) s t room)) ≡ plan.Err k → answered.Err k ≡ join_answer (level_at FIRST) s t room
+pub answer-refused : (s t : List ℕ) (room : ℕ) {k : Refusal} → planned (level_at FIRST) s t (first_of (join_rows (level_at FIRST) s t room)) ≡ Err k → Err k ≡ join_answer (level_at FIRST) s t room
 answer-refused s t room e = ap (λ a. size_as a (N s t) (G s t)) (sym (plan_refused s t (first_of (join_rows (level_at FIRST) s t room)) e))
 
-pub answer-fits : (s t : List ℕ) (room : ℕ) {p : Plan} → planned (level_at FIRST) s t (first_of (join_rows (level_at FIRST) s t room)) ≡ plan.Fits p → answered.Size p.size ≡ join_answer (level_at FIRST) s t room
+pub answer-fits : (s t : List ℕ) (room : ℕ) {p : Plan} → planned (level_at FIRST) s t (first_of (join_rows (level_at FIRST) s t room)) ≡ Ok p → Ok p.size ≡ join_answer (level_at FIRST) s t room
 answer-fits s t room e =
     let f = plan_fits s t (first_of (join_rows (level_at FIRST) s t room)) e in
-    ap (λ (p : Plan). answered.Size p.size) f.1 ∙ ap (λ a. size_as a (N s t) (G s t)) (sym f.0)
+    ap (λ (p : Plan). Ok p.size) f.1 ∙ ap (λ a. size_as a (N s t) (G s t)) (sym f.0)
 
 -- it is that of the join with every output of so many bytes
-pub as_joined : (s t : List ℕ) (room : ℕ) {r : Joined} → r ≡ join_answer (level_at FIRST) s t room → (r ≡ join_answer (level_at FIRST) s t room) × ((out : List ℕ) → length out ≡ room → r ≡ (join_outcome (level_at FIRST) s t out).0)
+pub as_joined : (s t : List ℕ) (room : ℕ) {r : Result Size Refusal} → r ≡ join_answer (level_at FIRST) s t room → (r ≡ join_answer (level_at FIRST) s t room) × ((out : List ℕ) → length out ≡ room → r ≡ (join_outcome (level_at FIRST) s t out).0)
 as_joined s t room e = (e, λ out f. e ∙ ap (join_answer (level_at FIRST) s t) (sym f) ∙ ahead s t out)
 
 -- what is left in the output
-pub left-refused : (s t out : List ℕ) {k : Refusal} → join_answer (level_at FIRST) s t (length out) ≡ answered.Err k → (answered.Err k, out) ≡ join_outcome (level_at FIRST) s t out
+pub left-refused : (s t out : List ℕ) {k : Refusal} → join_answer (level_at FIRST) s t (length out) ≡ Err k → (Err k, out) ≡ join_outcome (level_at FIRST) s t out
 left-refused s t out e = outcome-refused s t out (refused_from (first_of (join_rows (level_at FIRST) s t (length out))) (N s t) (G s t) e)
 
-pub left-size : (s t out : List ℕ) {size : Size} → join_answer (level_at FIRST) s t (length out) ≡ answered.Size size → let bytes = written (joined_bundle (level_at FIRST) s t) in
-    (size.length ≡ length bytes) × ((answered.Size size, bytes ++ drop (length bytes) out) ≡ join_outcome (level_at FIRST) s t out)
+pub left-size : (s t out : List ℕ) {size : Size} → join_answer (level_at FIRST) s t (length out) ≡ Ok size → let bytes = written (joined_bundle (level_at FIRST) s t) in
+    (size.length ≡ length bytes) × ((Ok size, bytes ++ drop (length bytes) out) ≡ join_outcome (level_at FIRST) s t out)
 left-size s t out e =
     let d = size_from (first_of (join_rows (level_at FIRST) s t (length out))) (N s t) (G s t) e in
     (ap (λ (z : Size). z.length) d.1, outcome-done s t out d.0 d.1 refl)

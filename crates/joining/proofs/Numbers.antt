@@ -7,7 +7,7 @@ use mathlib.Core.Bool.{Bool, true, false}
 use mathlib.Core.List.{List, [], ◌∷◌, ◌++◌}
 use Prim.Native.Nat.{ℕ, ◌+◌, ◌<◌}
 use native.Mathlib.Omega.{arith}
-use Rattle.refusal.specs.Answer.{first_of, number_of, Done}
+use Rattle.refusal.specs.Answer.{number, first_of, number_of, Done}
 use Rattle.field.specs.declared.Level.{Level}
 use Rattle.key.specs.declared.Key.{Key}
 use Rattle.layout.specs.declared.Row.{Row}
@@ -26,7 +26,7 @@ pub record Other (k : ℕ) : Type 0 where
 
 abbrev pub Others : List (Bool × Refusal) → Type 0
 Others [] = Unit {0}
-Others ((b, k) ∷ rows) = Other k × Others rows
+Others ((b, k) ∷ rows) = Other (number k) × Others rows
 
 below : (k : ℕ) → 0 < k → k < 13 → Other k
 below k h m = record { some = h; most = omega (arith, m); not-room = λ e. omega (arith, m, e) }

@@ -1,4 +1,5 @@
 -- What joining answers and writes, from what its functions ensure.
+use Rattle.std.specs.Prelude.{Err, Ok, Result}
 use Rattle.refusal.specs.declared.Refusal.TheVariants.{ShortOutput, OtherKey, GroupsDiffer}
 use mathlib.Core.Path.{◌≡◌, refl, sym, ap, ap₂, ◌∙◌, subst}
 use mathlib.Core.Bool.{Bool, true, false, not, cond}
@@ -14,9 +15,8 @@ use Rattle.lists.specs.Words.{part, put}
 use Rattle.lists.proofs.Words.{part_at}
 use Rattle.copying.specs.Words.{Bytes}
 use Rattle.copying.proofs.Filled.{stands-next, stands-first, first-stands}
-use Rattle.refusal.specs.Answer.{first_of, room_row, written as kept, Answer}
+use Rattle.refusal.specs.Answer.{Done, first_of, room_row, written as kept, Answer}
 use Rattle.refusal.specs.declared.Refusal.{Refusal}
-use Rattle.refusal.specs.declared.Answer.TheVariants as answer
 use Rattle.refusal.proofs.Answers.{none, after-done, after-refused, both_done, pass, stop}
 use Rattle.field.specs.Level.{FIRST, level_at}
 use Rattle.key.specs.declared.Key.{Key}
@@ -25,15 +25,12 @@ use Rattle.layout.specs.Layout.{key_segment, key_end}
 use Rattle.layout.specs.Tests.{key_of, after}
 use Rattle.package.specs.Written.{joined, Group, key_fields, ValidGroup}
 use Rattle.package.proofs.Joined.{joined-append}
-use Rattle.bundle.specs.declared.Read.TheVariants.{Fields}
 use Rattle.bundle.specs.Bundle.{group_at, starts, bundle_tests, key_data_of, groups_of}
 use Rattle.bundle.specs.Reading.{reading}
 use Rattle.bundle.specs.Written.{groups_fields, written, ValidGroups, ValidBundle, Accepted, said}
 use Rattle.bundle.proofs.Faithful.{map-length, key-within, key-bytes, bundle_faithful}
-use Rattle.joining.specs.declared.Joined.TheVariants as answered
 use Rattle.joining.specs.declared.Size.{Size}
 use Rattle.joining.specs.declared.Plan.{Plan}
-use Rattle.joining.specs.declared.Planned.TheVariants as plan
 use Rattle.joining.specs.Union.{insert, union, same, differ}
 use Rattle.joining.specs.Entry.{size_as, key_bytes, joined_bundle, join_rows, join_outcome}
 use Rattle.joining.specs.Laws.{ReadBack}
@@ -127,35 +124,35 @@ module _ (s t : List ℕ) (room : ℕ) where
   abbrev D : List (Bool × Refusal)
   D = room_row (length (written (joined_bundle (level_at FIRST) s t))) room
 
-  pub by_first : {k : Refusal} → first_of A ≡ answer.Err k → plan.Err k ≡ planned (level_at FIRST) s t (first_of (join_rows (level_at FIRST) s t room))
+  pub by_first : {k : Refusal} → first_of A ≡ Err k → Err k ≡ planned (level_at FIRST) s t (first_of (join_rows (level_at FIRST) s t room))
   by_first e = ap (planned (level_at FIRST) s t) (sym e ∙ after-refused (A ++ B ++ C) D (after-refused (A ++ B) C (after-refused A B refl e) e) e)
 
-  module _ (one : first_of A ≡ answer.Done) where
-    pub by_second : {k : Refusal} → first_of B ≡ answer.Err k → plan.Err k ≡ planned (level_at FIRST) s t (first_of (join_rows (level_at FIRST) s t room))
+  module _ (one : first_of A ≡ Done) where
+    pub by_second : {k : Refusal} → first_of B ≡ Err k → Err k ≡ planned (level_at FIRST) s t (first_of (join_rows (level_at FIRST) s t room))
     by_second e = ap (planned (level_at FIRST) s t) (sym e ∙ after-refused (A ++ B ++ C) D (after-refused (A ++ B) C (sym (after-done A B one)) e) e)
 
-    module _ (two : first_of B ≡ answer.Done) where
+    module _ (two : first_of B ≡ Done) where
       rows_left : first_of (join_rows (level_at FIRST) s t room) ≡ first_of (C ++ D)
       rows_left = ap first_of (append_assoc (A ++ B) C D) ∙ after-done (A ++ B) (C ++ D) (after-done A B one ∙ two)
 
-      pub by_key : same (key_bytes (level_at FIRST) s) (key_bytes (level_at FIRST) t) ≡ false → plan.Err (record { number = 21 }) ≡ planned (level_at FIRST) s t (first_of (join_rows (level_at FIRST) s t room))
+      pub by_key : same (key_bytes (level_at FIRST) s) (key_bytes (level_at FIRST) t) ≡ false → Err OtherKey ≡ planned (level_at FIRST) s t (first_of (join_rows (level_at FIRST) s t room))
       by_key e = ap (planned (level_at FIRST) s t) (sym (rows_left ∙ stop OtherKey ((differ (groups_of (level_at FIRST) s) (groups_of (level_at FIRST) t), GroupsDiffer) ∷ D) (ap not e)))
 
       module _ (key : same (key_bytes (level_at FIRST) s) (key_bytes (level_at FIRST) t) ≡ true) where
         pub key_left : first_of (join_rows (level_at FIRST) s t room) ≡ first_of ((differ (groups_of (level_at FIRST) s) (groups_of (level_at FIRST) t), GroupsDiffer) ∷ D)
         key_left = rows_left ∙ pass OtherKey ((differ (groups_of (level_at FIRST) s) (groups_of (level_at FIRST) t), GroupsDiffer) ∷ D) (ap not key)
 
-        pub by_groups : differ (groups_of (level_at FIRST) s) (groups_of (level_at FIRST) t) ≡ true → plan.Err (record { number = 22 }) ≡ planned (level_at FIRST) s t (first_of (join_rows (level_at FIRST) s t room))
+        pub by_groups : differ (groups_of (level_at FIRST) s) (groups_of (level_at FIRST) t) ≡ true → Err GroupsDiffer ≡ planned (level_at FIRST) s t (first_of (join_rows (level_at FIRST) s t room))
         by_groups e = ap (planned (level_at FIRST) s t) (sym (key_left ∙ stop GroupsDiffer D e))
 
         module _ (agree : differ (groups_of (level_at FIRST) s) (groups_of (level_at FIRST) t) ≡ false) where
-          pub by_room : room < length (written (joined_bundle (level_at FIRST) s t)) → plan.Err (record { number = 13 }) ≡ planned (level_at FIRST) s t (first_of (join_rows (level_at FIRST) s t room))
+          pub by_room : room < length (written (joined_bundle (level_at FIRST) s t)) → Err ShortOutput ≡ planned (level_at FIRST) s t (first_of (join_rows (level_at FIRST) s t room))
           by_room e = ap (planned (level_at FIRST) s t) (sym (key_left ∙ pass GroupsDiffer D agree ∙ stop ShortOutput [] (lt-ltb _ _ e)))
 
           pub by_fit : length (written (joined_bundle (level_at FIRST) s t)) ≤ room → {n g : ℕ} → n ≡ length (written (joined_bundle (level_at FIRST) s t)) → g ≡ length (joined_bundle (level_at FIRST) s t).groups
-              → plan.Fits (record { start = key_end (level_at FIRST) s; size = record { length = n; groups = g } }) ≡ planned (level_at FIRST) s t (first_of (join_rows (level_at FIRST) s t room))
+              → Ok (record { start = key_end (level_at FIRST) s; size = record { length = n; groups = g } }) ≡ planned (level_at FIRST) s t (first_of (join_rows (level_at FIRST) s t room))
           by_fit e f h =
-              ap₂ (λ (n g : ℕ). plan.Fits (record { start = key_end (level_at FIRST) s; size = record { length = n; groups = g } })) f h
+              ap₂ (λ (n g : ℕ). Ok (record { start = key_end (level_at FIRST) s; size = record { length = n; groups = g } })) f h
               ∙ ap (planned (level_at FIRST) s t) (sym (key_left ∙ pass GroupsDiffer D agree ∙ pass ShortOutput [] (le-ltb _ _ e)))
 
   -- what holds where no row applies
@@ -165,7 +162,7 @@ module _ (s t : List ℕ) (room : ℕ) where
     pub key : same (key_bytes (level_at FIRST) s) (key_bytes (level_at FIRST) t) ≡ true
     pub fits : length (written (joined_bundle (level_at FIRST) s t)) ≤ room
 
-  pub joins : first_of (join_rows (level_at FIRST) s t room) ≡ answer.Done → Joins
+  pub joins : first_of (join_rows (level_at FIRST) s t room) ≡ Done → Joins
   joins e =
       let p = both_done (A ++ B ++ C) D e in
       let q = both_done (A ++ B) C p.0 in
@@ -178,14 +175,14 @@ module _ (s t : List ℕ) (room : ℕ) where
       }
 
 -- what a plan says of the answer behind it
-pub plan_refused : (s t : List ℕ) (a : Answer) {k : Refusal} → planned (level_at FIRST) s t a ≡ plan.Err k → a ≡ answer.Err k
-plan_refused s t answer.Done e = let z : ◌≡◌ {A = ℕ} 0 1 = cc in absurd (omega arith)
-plan_refused s t (answer.Err r) e = cc
+pub plan_refused : (s t : List ℕ) (a : Answer) {k : Refusal} → planned (level_at FIRST) s t a ≡ Err k → a ≡ Err k
+plan_refused s t (Ok _) e = let z : ◌≡◌ {A = ℕ} 0 1 = cc in absurd (omega arith)
+plan_refused s t (Err r) e = cc
 
-pub plan_fits : (s t : List ℕ) (a : Answer) {p : Plan} → planned (level_at FIRST) s t a ≡ plan.Fits p
-    → (a ≡ answer.Done) × (p ≡ record { start = key_end (level_at FIRST) s; size = record { length = length (written (joined_bundle (level_at FIRST) s t)); groups = length (joined_bundle (level_at FIRST) s t).groups } })
-plan_fits s t answer.Done e = (refl, cc)
-plan_fits s t (answer.Err r) e = let z : ◌≡◌ {A = ℕ} 0 1 = cc in absurd (omega arith)
+pub plan_fits : (s t : List ℕ) (a : Answer) {p : Plan} → planned (level_at FIRST) s t a ≡ Ok p
+    → (a ≡ Done) × (p ≡ record { start = key_end (level_at FIRST) s; size = record { length = length (written (joined_bundle (level_at FIRST) s t)); groups = length (joined_bundle (level_at FIRST) s t).groups } })
+plan_fits s t (Ok _) e = (refl, cc)
+plan_fits s t (Err r) e = let z : ◌≡◌ {A = ℕ} 0 1 = cc in absurd (omega arith)
 
 -- groups of either within the limits
 insert-valid : (key : Key) (g : Group) (gs : List Group) → ValidGroup (level_at FIRST) key g → ValidGroups (level_at FIRST) key gs → ValidGroups (level_at FIRST) key (insert g gs)
@@ -257,27 +254,27 @@ module _ (s t : List ℕ) (b : Bytes s) (c : Bytes t) {start : ℕ} (m : Mates (
       let is : take size.length end ≡ bytes = ap₂ take n f ∙ take_at bytes (drop (length bytes) out) (length bytes) refl in
       record {
         fits = omega (arith, n, ap length f, length-append bytes (drop (length bytes) out));
-        read = ap (reading l) is ∙ bundle_faithful.read (joined_bundle l s t) joined-valid ∙ ap (λ (k : ℕ). Fields (record { n = (key_of s).n; m = (key_of s).m; groups = k })) (sym g);
+        read = ap (reading l) is ∙ bundle_faithful.read (joined_bundle l s t) joined-valid ∙ ap (λ (k : ℕ). Ok (record { n = (key_of s).n; m = (key_of s).m; groups = k })) (sym g);
         says = ap (said l) is ∙ bundle_faithful.says (joined_bundle l s t) joined-valid;
       }
 
-pub size_same : {x y : Size} → answered.Size x ≡ answered.Size y → x ≡ y
+pub size_same : {x y : Size} → ◌≡◌ {A = Result Size Refusal} (Ok x) (Ok y) → x ≡ y
 size_same e = cc
 
 -- the outcome, by the answer
-pub outcome-refused : (s t out : List ℕ) {k : Refusal} → first_of (join_rows (level_at FIRST) s t (length out)) ≡ answer.Err k → (answered.Err k, out) ≡ join_outcome (level_at FIRST) s t out
+pub outcome-refused : (s t out : List ℕ) {k : Refusal} → first_of (join_rows (level_at FIRST) s t (length out)) ≡ Err k → (Err k, out) ≡ join_outcome (level_at FIRST) s t out
 unfolding join_outcome
 outcome-refused s t out e =
     let bundle = joined_bundle (level_at FIRST) s t in
     let bytes = written bundle in
     ap (λ a. (size_as a (length bytes) (length bundle.groups), kept a (bytes ++ drop (length bytes) out) out)) (sym e)
 
-pub outcome-done : (s t out : List ℕ) {end : List ℕ} {size : Size} → first_of (join_rows (level_at FIRST) s t (length out)) ≡ answer.Done
+pub outcome-done : (s t out : List ℕ) {end : List ℕ} {size : Size} → first_of (join_rows (level_at FIRST) s t (length out)) ≡ Done
     → size ≡ record { length = length (written (joined_bundle (level_at FIRST) s t)); groups = length (joined_bundle (level_at FIRST) s t).groups }
-    → end ≡ written (joined_bundle (level_at FIRST) s t) ++ drop (length (written (joined_bundle (level_at FIRST) s t))) out → (answered.Size size, end) ≡ join_outcome (level_at FIRST) s t out
+    → end ≡ written (joined_bundle (level_at FIRST) s t) ++ drop (length (written (joined_bundle (level_at FIRST) s t))) out → (Ok size, end) ≡ join_outcome (level_at FIRST) s t out
 unfolding join_outcome
 outcome-done s t out e f h =
     let bundle = joined_bundle (level_at FIRST) s t in
     let bytes = written bundle in
-    ap₂ (λ (z : Size) (r : List ℕ). (answered.Size z, r)) f h
+    ap₂ (λ (z : Size) (r : List ℕ). (Ok z, r)) f h
     ∙ ap (λ a. (size_as a (length bytes) (length bundle.groups), kept a (bytes ++ drop (length bytes) out) out)) (sym e)

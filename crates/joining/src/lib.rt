@@ -55,8 +55,8 @@ fn same(a: &[u8], b: &[u8]) -> bool
         return false;
     }
     let mut d = 0;
-    for (x, y) in a.iter().zip(b) {
-        d |= x ^ y;
+    for i in 0..a.len() {
+        d |= a[i] ^ b[i];
     }
     d == 0
 }
@@ -143,7 +143,13 @@ fn put_groups(first: &[u8], second: &[u8], start: usize, out: &mut [u8])
 }
 
 // 21, 22 and 13 of accepted bundles, whose groups these are, with an output of so many bytes: the joined bundle, or the refusal.
-fn compare(first: &[u8], one: Groups, second: &[u8], two: Groups, room: usize) -> Result<Plan, Refusal>
+fn compare(
+    first: &[u8],
+    one: Groups,
+    second: &[u8],
+    two: Groups,
+    room: usize,
+) -> Result<Plan, Refusal>
     requires accepted { Accepted (level_at FIRST) first.now × Accepted (level_at FIRST) second.now }
     requires one_value { (one ≡ record { start = key_end (level_at FIRST) first.now; number = length (starts (level_at FIRST) first.now) }) × (two ≡ record { start = key_end (level_at FIRST) second.now; number = length (starts (level_at FIRST) second.now) }) }
     ensures { result ≡ planned (level_at FIRST) first.now second.now (first_of (join_rows (level_at FIRST) first.now second.now room)) }
@@ -175,7 +181,7 @@ fn walk_second(first: &[u8], start: usize, second: &[u8]) -> Result<Groups, Refu
     if !same(&first[..start], &second[..start]) {
         return bundle::walk(second);
     }
-    if copying::byte_at(second, start) == usize::from(Row::Y) {
+    if copying::byte_at(second, start) == Row::Y as usize {
         return bundle::walk(second);
     }
     bundle::read_groups(second, layout::key_at(second, layout::HEAD), start)
@@ -207,6 +213,7 @@ pub fn look_before_join(first: &[u8], second: &[u8], room: usize) -> Result<Size
     ensures outcome { result ≡ join_answer (level_at FIRST) first.now second.now room }
     ensures ahead { (out : List ℕ) → length out ≡ room → result ≡ (join_outcome (level_at FIRST) first.now second.now out).0 }
 {
-    let told = look(first, second, room)?.size;
+    let plan = look(first, second, room)?;
+    let told = plan.size;
     Ok(told)
 }

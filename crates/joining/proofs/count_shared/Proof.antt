@@ -1,5 +1,5 @@
 use Prim.Native.Nat.{ℕ, ◌+◌, ◌-◌, ◌≤◌, ◌<◌}
-use mathlib.Core.Path.{◌≡◌, sym, ap₂, ◌∙◌, subst}
+use mathlib.Core.Path.{◌≡◌, refl, sym, ap₂, ◌∙◌, subst}
 use native.Mathlib.Omega.{arith}
 use lib.ListN as list
 use Rattle.field.specs.Level.{FIRST, level_at}
@@ -155,7 +155,7 @@ compared c =
 returns-then-not-same : tie.Need-returns-then-not-same invariant-loop-i decreases-loop-i
 returns-then-not-same c =
     let a = c.args in
-    found-other c.key_at-key.result c.loop-i.invariant.0 a.first.now a.second.now (groups_of (level_at FIRST) a.first.now) (groups_of (level_at FIRST) a.second.now) (view c.before.before.before.before.before.before.before.before.before.before) (equal c.before.before.before.before) (sym (compared c.before) ∙ c.if-not-same.true)
+    (found-other c.key_at-key.result c.loop-i.invariant.0 a.first.now a.second.now (groups_of (level_at FIRST) a.first.now) (groups_of (level_at FIRST) a.second.now) (view c.before.before.before.before.before.before.before.before.before.before) (equal c.before.before.before.before) (sym (compared c.before) ∙ c.if-not-same.true), refl)
 
 -- the number and the bytes so far are no more than the first bundle has
 few : (c : tie.Else-not-same invariant-loop-i decreases-loop-i) →

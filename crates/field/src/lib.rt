@@ -5,7 +5,7 @@ ghost use Rattle.std.specs.Prelude.{◌≡◌, ◌+◌, ◌*◌, ◌≤◌, ◌<
 ghost use Rattle.lists.specs.Words.{part, put};
 ghost use Rattle.field.specs.Ring.{Ring, Hom};
 ghost use Rattle.field.specs.Binary.{bit};
-ghost use Rattle.field.specs.Level.{level_at, first, second, F, K, embed, Y};
+ghost use Rattle.field.specs.Level.{level_at, F, K, embed, Y};
 ghost use Rattle.field.specs.Word.{odd, small, words, within, is_zero};
 ghost use Rattle.field.specs.Packed.{Holds, Multiplies, room};
 

@@ -248,9 +248,7 @@ pub fn looked_first(
 {
     let n = lent.key.n;
     match order::quick_look(n, positions) {
-        Ok(None) => Driven::Proved(prover::prove(
-            lent, positions, u, v, r, s, alpha, t, a,
-        )),
+        Ok(None) => Driven::Proved(prover::prove(lent, positions, u, v, r, s, alpha, t, a)),
         Ok(Some(index)) => Driven::Offender(index),
         Err(refusal) => Driven::Refused(refusal),
     }

@@ -193,7 +193,12 @@ pub extern "C" fn perk_quick_look(n: usize, positions: &[u8], index: &mut usize)
 }
 
 // The number of a reader's answer; n, m and the serial are written where it is no refusal.
-fn put_read(answer: Result<package::Contents, Refusal>, n: &mut u32, m: &mut u32, serial: &mut u32) -> u32
+fn put_read(
+    answer: Result<package::Contents, Refusal>,
+    n: &mut u32,
+    m: &mut u32,
+    serial: &mut u32,
+) -> u32
     requires { SmallSizes answer }
     ensures { (result, (n.new, m.new, serial.new)) ≡ read_put answer (n.old, m.old, serial.old) }
 {
@@ -230,7 +235,12 @@ pub extern "C" fn perk_read_check_file(
 }
 
 // The number of the answer of the reader of bundles; n, m and the number of groups are written where it is no refusal.
-fn put_bundle(answer: Result<bundle::Contents, Refusal>, n: &mut u32, m: &mut u32, groups: &mut usize) -> u32
+fn put_bundle(
+    answer: Result<bundle::Contents, Refusal>,
+    n: &mut u32,
+    m: &mut u32,
+    groups: &mut usize,
+) -> u32
     requires { SmallBundle answer }
     ensures { (result, (n.new, m.new, groups.new)) ≡ bundle_put answer (n.old, m.old, groups.old) }
 {
@@ -326,10 +336,7 @@ pub extern "C" fn perk_write_package(
 {
     let key = Key { n, m };
     let lent = Lent { key, h, x, y };
-    put(
-        writer::write_package(&lent, serial, t, a, out),
-        length,
-    )
+    put(writer::write_package(&lent, serial, t, a, out), length)
 }
 
 // The length of a field's content in a package, and where it starts.

@@ -1,6 +1,6 @@
 -- Looking before proving, of the contracts and the laws.
 use Rattle.refusal.specs.declared.Refusal.{Refusal}
-use Rattle.std.specs.Prelude.{Err}
+use Rattle.std.specs.Prelude.{Option, Some, None, Result, Ok, Err}
 use Rattle.refusal.specs.declared.Refusal.TheVariants.{SliceLength, KeyElement, Bit, Coordinate, Position, DependentRows, SpareCode}
 use mathlib.Core.Path.{◌≡◌, refl, sym, ap, ◌∙◌}
 use mathlib.Core.Bool.{Bool, not, false≢true}
@@ -10,7 +10,7 @@ use native.Mathlib.Omega.{arith}
 use borrow.Author.Tests.{not-false, ltb-false}
 use Rattle.lists.specs.Lent.{long}
 use Rattle.lists.proofs.Lent.{each_long}
-use Rattle.refusal.specs.Answer.{first_of, Answer, Done}
+use Rattle.refusal.specs.Answer.{number as code, first_of, Answer, Done}
 use Rattle.refusal.proofs.Answers.{none}
 use Rattle.field.specs.declared.Level.{Level}
 use Rattle.field.specs.Level.{level_at}
@@ -27,8 +27,6 @@ use Rattle.constraints.proofs.Count.{order_below}
 use Rattle.prover.specs.Entry.{prove_lent, prove_rows, tops_row, prove_outcome}
 use Rattle.prover.proofs.Fine.{passed_fine}
 use Rattle.prover.proofs.Solved.{solved}
-use Rattle.order.specs.declared.Looked.{Looked}
-use Rattle.order.specs.declared.Looked.TheVariants.{Well, Offender}
 use Rattle.order.specs.Tells.{Tells}
 use Rattle.order.proofs.Told.{fine-done}
 
@@ -42,7 +40,7 @@ module _ (number : ℕ) (key : Key) (lent : KeySlices) (positions u v r s α t a
   answered e = ap (λ (o : Answer × (List ℕ × List ℕ)). o.0) e
 
   -- where prove is done all is well
-  pub done_well : {k : Looked} → Tells (level_at number) key.n positions (k ≡ Well) (λ i. k ≡ Offender i) → (prove_outcome (level_at number) key lent positions u v r s α t a).0 ≡ Done → k ≡ Well
+  pub done_well : {k : Result (Option ℕ) Refusal} → Tells (level_at number) key.n positions (k ≡ Ok None) (λ i. k ≡ Ok (Some i)) → (prove_outcome (level_at number) key lent positions u v r s α t a).0 ≡ Done → k ≡ Ok None
   unfolding prove_outcome
   done_well told d =
       let z = (solved number key lent positions u v r s α t a refl).done.0 d in
@@ -58,14 +56,14 @@ module _ (number : ℕ) (key : Key) (lent : KeySlices) (positions u v r s α t a
     pub not_seven : o ≡ (Err Position) → ⊥
     not_seven d =
         let c = codes_of key.n positions in
-        let b = decides before (is_too_large c) 7 (spare_row c ++ tops_row l key lent positions v) no_7 (λ z. omega (arith, z), (λ z. omega (arith, z), tt)) (sym (answered e) ∙ d) in
+        let b = decides before (is_too_large c) Position (spare_row c ++ tops_row l key lent positions v) no_7 (λ z. omega (arith, ap code z), (λ z. omega (arith, ap code z), tt)) (sym (answered e) ∙ d) in
         let f = none before b.0 in
         let long = (each_long (prove_lent (lengths l key) lent positions u v r s α t a) (not-false _ f.1.1.1.1.0)).1.1.1.0 in
         let fits = degree-fits key.n (omega (arith, ltb-false l.most key.n f.1.0, (bounded number).most)) in
         false≢true (sym (ap is_too_large (columns key.n fits positions (λ i h. order_below (position_at positions) key.n is i (omega (arith, long))))) ∙ b.1)
       where
         no_7 : Others Position before
-        no_7 = (λ z. omega (arith, z), (λ z. omega (arith, z), (λ z. omega (arith, z), (λ z. omega (arith, z), (λ z. omega (arith, z), (λ z. omega (arith, z), (λ z. omega (arith, z), (λ z. omega (arith, z), (λ z. omega (arith, z), tt)))))))))
+        no_7 = (λ z. omega (arith, ap code z), (λ z. omega (arith, ap code z), (λ z. omega (arith, ap code z), (λ z. omega (arith, ap code z), (λ z. omega (arith, ap code z), (λ z. omega (arith, ap code z), (λ z. omega (arith, ap code z), (λ z. omega (arith, ap code z), (λ z. omega (arith, ap code z), tt)))))))))
 
     pub not-sixteen : o ≡ (Err SpareCode) → ⊥
     not-sixteen d =

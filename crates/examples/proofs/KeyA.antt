@@ -1,4 +1,5 @@
 -- Key A: completeness holds of it, prove leaves a = 5, which is accepted, and a = 4 is rejected.
+use Rattle.std.specs.Prelude.{Ok}
 use mathlib.Core.Path.{◌≡◌, refl, sym, ◌∙◌, ap}
 use mathlib.Core.List.{List, [], ◌∷◌}
 use Prim.Native.Nat.{ℕ, zero, suc}
@@ -102,7 +103,7 @@ A-a = ap (λ (p : List ℕ × List ℕ). p.1) (left A positions A-done) ∙ proo
     ∙ unfold bares concat degree count_leading_zeros proof f weighted mask small_at numbers_at polynomial constraint join column row x' z factor witness digit_in summed product power coefficient raised linear_times
     small word digits number vector F times horner times_x rule 𝟘s unit sum scale push top in refl
 
-pub A-accepted : verdict_of A (1 ∷ 1 ∷ []) (3 ∷ 4 ∷ []) 2 [] (5 ∷ []) ≡ Accepted
+pub A-accepted : verdict_of A (1 ∷ 1 ∷ []) (3 ∷ 4 ∷ []) 2 [] (5 ∷ []) ≡ Ok Accepted
 unfolding verdict_of prove_of
 A-accepted = sym (λ i. verify_outcome first (sizes A) A.lent (A-t i) q Δ masks (bares A.α) (A-a i)) ∙ key-A_complete.accepted
 
@@ -125,11 +126,11 @@ one-proof a b h k = embed-injective first (omega arith) (small first a) (small f
     is : (a : ℕ) → eval (K first) 1 (vector 1 (element_at first (bares (a ∷ [])))) (element first Δ) ≡ (embed first).map (small_at first (a ∷ []) 0)
     is a = at-Δ (K first) (element_at first (bares (a ∷ []))) (element first Δ) ∙ element-bares (a ∷ []) 0
 
-judges : (a : ℕ) → Judges first (sizes A) A.lent t q Δ masks (bares A.α) (bares (a ∷ [])) (verdict_of A t (3 ∷ 4 ∷ []) 2 [] (a ∷ []) ≡ Accepted) (verdict_of A t (3 ∷ 4 ∷ []) 2 [] (a ∷ []) ≡ Rejected)
+judges : (a : ℕ) → Judges first (sizes A) A.lent t q Δ masks (bares A.α) (bares (a ∷ [])) (verdict_of A t (3 ∷ 4 ∷ []) 2 [] (a ∷ []) ≡ Ok Accepted) (verdict_of A t (3 ∷ 4 ∷ []) 2 [] (a ∷ []) ≡ Ok Rejected)
 unfolding verdict_of verify_outcome level_at
 judges a = (told FIRST (sizes A) A.lent t q Δ masks (bares A.α) (bares (a ∷ [])) refl refl refl refl refl).1.1
 
-pub A-rejected : verdict_of A (1 ∷ 1 ∷ []) (3 ∷ 4 ∷ []) 2 [] (4 ∷ []) ≡ Rejected
+pub A-rejected : verdict_of A (1 ∷ 1 ∷ []) (3 ∷ 4 ∷ []) 2 [] (4 ∷ []) ≡ Ok Rejected
 A-rejected = (judges 4).rejected.1 (not-refused, λ h. differ (ap (word first) (one-proof 4 5 h ((judges 5).accepted.0 A-accepted).1)))
   where
     not-refused : first_of (verify_rows first (sizes A) A.lent t q Δ masks (bares A.α) (bares (4 ∷ []))) ≡ Done

@@ -1,4 +1,6 @@
 -- What a caller of the writer and the reader knows from their contracts.
+use Rattle.std.specs.Prelude.{Result, Ok, Err}
+use Rattle.refusal.specs.declared.Refusal.{Refusal}
 use mathlib.Core.Path.{◌≡◌, sym, ap, ap₂, ◌∙◌}
 use mathlib.Core.List.{List}
 use Prim.Native.Nat.{ℕ}
@@ -11,37 +13,33 @@ use Rattle.key.specs.Key.{KeySlices}
 use Rattle.layout.specs.declared.Part.{Part}
 use Rattle.layout.specs.Tests.{key_of}
 use Rattle.package.specs.declared.Contents.{Contents}
-use Rattle.package.specs.declared.Read.{Read}
-use Rattle.package.specs.declared.Read.TheVariants.{Fields, Err}
 use Rattle.package.specs.Reading.{package_reader, reading, field_part}
 use Rattle.package.specs.Written.{content_of, package_form, Accepted}
 use Rattle.package.specs.Said.{group_of}
 use Rattle.package.proofs.Accepted.{read-accepts}
 use Rattle.package.proofs.Forms.{package_faithful}
 use Rattle.package.proofs.Said.{package_data, package_said}
-use Rattle.writer.specs.declared.Written.{Written}
-use Rattle.writer.specs.declared.Written.TheVariants as written
 use Rattle.writer.specs.Entry.{data_of}
 use Rattle.writer.specs.Laws.{ReadBack}
 
 -- the length that an answer carries
-abbrev value : Written → ℕ
-value (written.Length n) = n
-value (written.Err q) = 0
+abbrev value : Result ℕ Refusal → ℕ
+value (Ok n) = n
+value (Err q) = 0
 
 -- the reader's answer r and the part p that it finds, for the first len bytes
-pub carried : (key : Key) (lent : KeySlices) (serial : ℕ) (t a : List ℕ) (tag : ℕ) (out : List ℕ) (len : ℕ) {r : Read} {p : Part} → ReadBack (level_at FIRST) key lent serial t a len out
+pub carried : (key : Key) (lent : KeySlices) (serial : ℕ) (t a : List ℕ) (tag : ℕ) (out : List ℕ) (len : ℕ) {r : Result Contents Refusal} {p : Part} → ReadBack (level_at FIRST) key lent serial t a len out
     → r ≡ reading (package_reader (level_at FIRST)) (take len out) → p ≡ field_part (package_reader (level_at FIRST)) (take len out) tag
-    → (k : ℕ) → written.Length len ≡ written.Length k → (r ≡ Fields (record { n = key.n; m = key.m; serial = serial })) × (part p.start p.len (take k out) ≡ content_of tag ((package_form (level_at FIRST)).fields (data_of key lent serial t a)))
+    → (k : ℕ) → Ok len ≡ Ok k → (r ≡ Ok (record { n = key.n; m = key.m; serial = serial })) × (part p.start p.len (take k out) ≡ content_of tag ((package_form (level_at FIRST)).fields (data_of key lent serial t a)))
 carried key lent serial t a tag out len b e f k g = (e ∙ b.read, ap₂ (λ (q : Part) (n : ℕ). part q.start q.len (take n out)) f (sym (ap value g)) ∙ b.fields tag)
 
 -- the serial that an answer carries
-abbrev serial_of : Read → ℕ
-serial_of (Fields c) = c.serial
+abbrev serial_of : Result Contents Refusal → ℕ
+serial_of (Ok c) = c.serial
 serial_of (Err r) = 0
 
 -- a package for which the reader answers c
-module _ (s : List ℕ) (b : Bytes s) (c : Contents) (e : reading (package_reader (level_at FIRST)) s ≡ Fields c) where
+module _ (s : List ℕ) (b : Bytes s) (c : Contents) (e : reading (package_reader (level_at FIRST)) s ≡ Ok c) where
   pub accepted : Accepted (package_form (level_at FIRST)) s
   accepted = (read-accepts (package_reader (level_at FIRST)) s e).0
 

@@ -1,5 +1,6 @@
 -- The starred examples of the specification: what the definitions give, beside the result that it states.
-use Rattle.std.specs.Prelude.{List, [], ◌∷◌, ◌++◌, ℕ, suc, ◌+◌, ◌*◌, set, replicate}
+use Rattle.refusal.specs.declared.Refusal.{Refusal}
+use Rattle.std.specs.Prelude.{Result, List, [], ◌∷◌, ◌++◌, ℕ, suc, ◌+◌, ◌*◌, set, replicate}
 use Rattle.lists.specs.Words.{part, concat}
 use Rattle.field.specs.Level.{first, F, K}
 use Rattle.field.specs.Word.{small, word, element, words}
@@ -79,7 +80,7 @@ module _ (key : Numbers) where
   prove_of positions = prove_outcome first sizes lent positions u (bares v) (bares r) (bares s) (bares α) (replicate (lengths first sizes).bits 0) (replicate (lengths first sizes).proof 0)
 
   -- what verify answers
-  unfoldable pub verdict_of : (t q : List ℕ) (Δ : ℕ) (masks a : List ℕ) → Verdict
+  unfoldable pub verdict_of : (t q : List ℕ) (Δ : ℕ) (masks a : List ℕ) → Result Verdict Refusal
   verdict_of t q Δ masks a = verify_outcome first sizes lent t (bares q) (bare Δ) (bares masks) (bares α) (bares a)
 
 -- "Key A is n = 2, m = 1, H = (2 1), x = (1 2), v = (1, 4), u = (1, 0)."; "α = 1, 2, 1"; d is 1, so there are no masks

@@ -26,7 +26,7 @@ use Rattle.joining.proofs.Laws.{joins_itself}
 use Rattle.joining.proofs.Ahead.{left-refused, left-size, look-laws}
 
 -- bytes that the reader accepts, joined with themselves
-pub again : (s out : List ℕ) → Bytes s → {r : Joined} {end : List ℕ} → (r, end) ≡ join_outcome (level_at FIRST) s s out
+pub again : (s out : List ℕ) → Bytes s → {r : Result Size Refusal} {end : List ℕ} → (r, end) ≡ join_outcome (level_at FIRST) s s out
     → (c : Contents) → reading (level_at FIRST) s ≡ Ok c → length s ≤ length out → (r ≡ Ok (record { length = length s; groups = c.groups })) × (end ≡ s ++ drop (length s) out)
 again s out b e c f h =
     let l = level_at FIRST in
@@ -53,7 +53,7 @@ module _ (s t out : List ℕ) (room : ℕ) where
       (z, refl, look-laws.told s t room z (sym e) z.length ∙ ap (at z) (le-ltb z.length z.length (omega arith))),
     )
 
-    pub look_exact : z.length ≤ length out → {j : Joined} {end : List ℕ} → (j, end) ≡ join_outcome (level_at FIRST) s t (take z.length out) → (number_of j ≡ 13 → ⊥) × ((j, end ++ drop z.length out) ≡ join_outcome (level_at FIRST) s t out)
+    pub look_exact : z.length ≤ length out → {j : Result Size Refusal} {end : List ℕ} → (j, end) ≡ join_outcome (level_at FIRST) s t (take z.length out) → (number_of j ≡ 13 → ⊥) × ((j, end ++ drop z.length out) ≡ join_outcome (level_at FIRST) s t out)
     look_exact h {j} {end} f =
         let W = written (joined_bundle (level_at FIRST) s t) in
         let lent = take z.length out in

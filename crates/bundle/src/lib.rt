@@ -87,6 +87,7 @@ pub fn read_groups(s: &[u8], key: Key, start: usize) -> Result<Groups, Refusal>
     let mut at = start;
     let mut low = 0;
     let mut number = 0;
+    // How many groups there are shows only at the last: a `for` is no plainer.
     loop {
         let end = read_group(s, key, at, low)?;
         number += 1;

@@ -150,6 +150,7 @@ fn put_number(x: u64, last: u8, at: usize, out: &mut [u8]) -> usize
     text[19] = digit(x);
     let mut i = 19;
     let mut rest = x / 10;
+    // The digits from the last on: the edit digit_repeated changes this loop, and std's text needs room that grows.
     while 0 < rest {
         i -= 1;
         text[i] = digit(rest);

@@ -18,7 +18,7 @@ use folding::polynomials;
 use row::elements;
 use row::equations::Matrix;
 
-// Zero exactly when each of the first size elements is zero.
+// Zero exactly when each of the first size elements is zero: a number, as they may be secret and none is decided by itself.
 pub fn nonzero(p: &[u16], size: usize, level: usize) -> u16
     requires { Words (level_at level) p.now × Fits (level_at level) size (length p.now) }
     ensures { eqb result 0 ≡ every size (λ j. is_zero (level_at level) (el (level_at level) p.now j)) }

@@ -22,17 +22,6 @@ use Rattle.package.proofs.Said.{package_data, package_said}
 use Rattle.writer.specs.Entry.{data_of}
 use Rattle.writer.specs.Laws.{ReadBack}
 
--- the length that an answer carries
-abbrev value : Result ℕ Refusal → ℕ
-value (Ok n) = n
-value (Err q) = 0
-
--- the reader's answer r and the part p that it finds, for the first len bytes
-pub carried : (key : Key) (lent : KeySlices) (serial : ℕ) (t a : List ℕ) (tag : ℕ) (out : List ℕ) (len : ℕ) {r : Result Contents Refusal} {p : Part} → ReadBack (level_at FIRST) key lent serial t a len out
-    → r ≡ reading (package_reader (level_at FIRST)) (take len out) → p ≡ field_part (package_reader (level_at FIRST)) (take len out) tag
-    → (k : ℕ) → ◌≡◌ {A = Result ℕ Refusal} (Ok len) (Ok k) → (r ≡ Ok (record { n = key.n; m = key.m; serial = serial })) × (part p.start p.len (take k out) ≡ content_of tag ((package_form (level_at FIRST)).fields (data_of key lent serial t a)))
-carried key lent serial t a tag out len b e f k g = (e ∙ b.read, ap₂ (λ (q : Part) (n : ℕ). part q.start q.len (take n out)) f (sym (ap value g)) ∙ b.fields tag)
-
 -- the serial that an answer carries
 abbrev serial_of : Result Contents Refusal → ℕ
 serial_of (Ok c) = c.serial

@@ -184,7 +184,7 @@ impl Element {
         Element { words }
     }
 
-    // Zero exactly when the element is zero.
+    // Zero exactly when the element is zero. A number, so that many are joined before the one decision: they may be secret.
     pub fn nonzero(self, level: usize) -> u16
         ensures { (x : (K (level_at level)).Carrier) → Holds (level_at level) self.words x → eqb result 0 ≡ is_zero (level_at level) x }
     {
@@ -258,7 +258,7 @@ impl Multiples {
     }
 }
 
-// Zero exactly when no word of s is above the level's limit.
+// Zero exactly when no word of s is above the level's limit. A number, so that many are joined before the one decision: they may be secret.
 pub fn excess(s: &[u16], level: usize) -> u16
     ensures { eqb result 0 ≡ within (level_at level) s.now }
 {

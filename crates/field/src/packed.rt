@@ -61,7 +61,7 @@ pub fn store(ws: &[u64], s: &mut [u16], at: usize, level: usize)
     }
 }
 
-// Zero exactly when the element is zero.
+// Zero exactly when the element is zero. A number, as is each such answer: what is lent may be secret, and is joined before the one decision.
 pub fn nonzero(ws: &[u64], level: usize) -> u16
     requires { room (level_at level) ≤ length ws.now }
     ensures { (x : (K (level_at level)).Carrier) → Holds (level_at level) ws.now x → eqb result 0 ≡ is_zero (level_at level) x }

@@ -100,6 +100,7 @@ impl fmt::Display for Line {
 // A line for each case to the end of the bytes; a case that is cut there is the last.
 fn print_lines(rt: &impl Print, file: &[u8]) -> io::Result<()> {
     let mut rest = file;
+    // Each turn goes on by one case, as long as it states.
     while !rest.is_empty() {
         let Some((case, after)) = Case::split(rest) else {
             return rt.println(Refused);

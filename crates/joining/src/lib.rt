@@ -71,6 +71,7 @@ fn count_shared(first: &[u8], second: &[u8], start: usize) -> Result<Shared, Ref
     let mut j = start;
     let mut number = 0;
     let mut length = 0;
+    // Two places that go on by the length of a group, either or both: a `for` is no plainer.
     loop {
         if first.len() <= i {
             return Ok(Shared { number, length });
@@ -116,6 +117,7 @@ fn put_groups(first: &[u8], second: &[u8], start: usize, out: &mut [u8])
     let mut i = start;
     let mut j = start;
     let mut at = start;
+    // As in `count_shared`.
     loop {
         if first.len() <= i {
             put_part(second, j, second.len(), at, out);

@@ -51,9 +51,6 @@ module _ (l : Level) (key : Key) where
 
     -- past the sizes, the lengths, then the key and then the material decide, whatever rows follow; the lengths are told by the test of a number k
     module _ (others : List (Bool × Refusal)) (h : first_of (sizes l key) ≡ Done) (k : ℕ) (e : eqb k 0 ≡ slices) where
-      pub told-length : (k ≡ 0 → ⊥) → (Err SliceLength) ≡ first_of (sizes l key ++ checks l key slices lent bits coordinates positions ++ others)
-      told-length f = sym (after-done (sizes l key) (checks l key slices lent bits coordinates positions ++ others) h ∙ stop SliceLength (contents l key lent ++ (material bits coordinates positions ++ others)) (ap not (sym e ∙ ne_eqb k 0 f)))
-
       module _ (z : k ≡ 0) where
         past : first_of (contents l key lent ++ (material bits coordinates positions ++ others)) ≡ first_of (sizes l key ++ checks l key slices lent bits coordinates positions ++ others)
         past = sym (after-done (sizes l key) (checks l key slices lent bits coordinates positions ++ others) h ∙ pass SliceLength (contents l key lent ++ (material bits coordinates positions ++ others)) (ap not (sym e ∙ eq-eqb k 0 z)))

@@ -121,7 +121,7 @@ impl Key {
 }
 
 impl Lent<'_> {
-    // Zero exactly when no element is above the limit.
+    // Zero exactly when no element is above the limit: a number, as `field::excess` is.
     fn excess(&self, level: usize) -> u16
         ensures { eqb result 0 ≡ key_within (level_at level) (slices_of self.now) }
     {
@@ -187,7 +187,7 @@ impl Code {
     }
 }
 
-// Zero exactly when every byte of s is below 2^digits.
+// Zero exactly when every byte of s is below 2^digits. A number, so that many are joined before the one decision: they may be secret.
 pub fn over(s: &[u8], digits: usize) -> u8
     requires { digits < 8 }
     ensures { eqb result 0 ≡ below digits s.now }

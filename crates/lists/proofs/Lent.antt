@@ -1,4 +1,4 @@
--- Lengths compared by exclusive or, and the differences joined by or: zero exactly when all are as stated.
+-- Numbers joined by or, zero exactly when all are; and lengths as they are stated.
 use mathlib.Core.Path.{◌≡◌, refl, sym, ap, ap₂, ◌∙◌}
 use mathlib.Core.Bool.{Bool, true, false, ◌&&◌, and-eq-true_iff}
 use mathlib.Core.List.{List, [], ◌∷◌}
@@ -27,21 +27,6 @@ or-none a b = go (ℕ_discrete a 0) (ℕ_discrete b 0)
     go (yes p) (yes q) = eq-eqb (bit_or a b) 0 (omega (arith, or_add_and a b)) ∙ sym (ap₂ ◌&&◌ (eq-eqb a 0 p) (eq-eqb b 0 q))
     go (yes p) (no q) = ne_eqb (bit_or a b) 0 (λ e. q (omega (arith, or_add_and a b, and_le_l a b))) ∙ sym (ap₂ ◌&&◌ (eq-eqb a 0 p) (ne_eqb b 0 q))
     go (no p) q = ne_eqb (bit_or a b) 0 (λ e. p (omega (arith, or_add_and a b, and_le_r a b))) ∙ sym (ap (λ t. t && eqb b 0) (ne_eqb a 0 p))
-
--- the differences of all lengths, joined
-abbrev pub differences : List (List ℕ × ℕ) → ℕ
-differences [] = 0
-differences ((s, n) ∷ []) = bit_xor (length s) n
-differences ((s, n) ∷ other ∷ others) = bit_or (bit_xor (length s) n) (differences (other ∷ others))
-
-pub differences-long : (slices : List (List ℕ × ℕ)) → eqb (differences slices) 0 ≡ long slices
-differences-long [] = refl
-differences-long ((s, n) ∷ []) = xor-none (length s) n ∙ last (eqb (length s) n)
-  where
-    last : (b : Bool) → b ≡ (b && true)
-    last true = refl
-    last false = refl
-differences-long ((s, n) ∷ other ∷ others) = or-none (bit_xor (length s) n) (differences (other ∷ others)) ∙ ap₂ ◌&&◌ (xor-none (length s) n) (differences-long (other ∷ others))
 
 -- each slice has its length
 abbrev pub Long : List (List ℕ × ℕ) → Type 0

@@ -76,7 +76,7 @@ fn refused(
     key::material(key::over(u, 1), coordinates, lent.key.codes(positions))
 }
 
-// Zero exactly when all n + m top coefficients are zero; they do not depend on the offsets. p is room for them, work for 2^d elements.
+// Zero exactly when all n + m top coefficients are zero, a number as `checkzero::nonzero` answers it; they do not depend on the offsets. p is room for them, work for 2^d elements.
 fn tops(lent: &Lent<'_>, positions: &[u8], p: &mut [u16], work: &mut [u16]) -> u16
     requires sized { Sized (level_at FIRST) lent.now.key × LentKey (level_at FIRST) lent.now.key.n lent.now.key.m lent.now.h.now lent.now.x.now × LentTarget (level_at FIRST) lent.now.key.m lent.now.y.now }
     requires positions_len { (length positions.now ≡ (lengths (level_at FIRST) lent.now.key).positions) × (length p.old ≡ 1524) × (length work.old ≡ 5376) }

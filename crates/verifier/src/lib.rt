@@ -70,7 +70,7 @@ fn refused(
     key::material(key::over(t, 1), coordinates, Code::COLUMN)
 }
 
-// Zero exactly when a at the challenge equals the weighted sum of the values plus the mask sum. The last four slices are room for an
+// Zero, as `Element::nonzero` answers it, exactly when a at the challenge equals the weighted sum of the values plus the mask sum. The last four slices are room for an
 // element for each of 2^d columns.
 fn difference(
     lent: &Lent<'_>,

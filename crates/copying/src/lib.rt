@@ -48,9 +48,11 @@ pub fn put_bytes(bytes: &[u8], at: usize, out: &mut [u8]) -> usize
     requires { at + length bytes.now ≤ length out.old }
     ensures { (out.new ≡ put at bytes.now out.old) × (result ≡ at + length bytes.now) }
 {
-    let end = at + bytes.len();
-    out[at..end].copy_from_slice(bytes);
-    end
+    // A loop, as `copy_from_slice` would make the library for C need memmove.
+    for (i, &b) in bytes.iter().enumerate() {
+        out[at + i] = b;
+    }
+    at + bytes.len()
 }
 
 // Each word as two bytes, highest byte first, from place at on; answers the place after them.

@@ -150,7 +150,10 @@ pub fn rank(h: &[u16], matrix: &mut [u16], n: usize, m: usize, level: usize) -> 
     ensures rank { result ≡ rank_of (level_at level) n m h.now }
     ensures cleared { matrix.new ≡ cleared_words (level_at level) n m h.now }
 {
-    matrix.copy_from_slice(h);
+    // A loop, as `copy_from_slice` would make the library for C need memmove.
+    for (i, &x) in h.iter().enumerate() {
+        matrix[i] = x;
+    }
     eliminate(matrix, n, m, level)
 }
 

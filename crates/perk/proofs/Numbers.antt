@@ -12,7 +12,7 @@ use Rattle.refusal.specs.declared.Refusal.{Refusal}
 use Rattle.refusal.specs.declared.Refusal.TheVariants.{SizeN, SizeM, SliceLength, KeyElement, Bit, Coordinate, Position, Top, BytesMissing, Tag, FieldLength, BytesFollow, ShortOutput, ZeroTarget, DependentRows, SpareCode, LongSerial, SerialOrder, OtherKey, GroupsDiffer}
 use Rattle.refusal.specs.declared.Verdict.{Verdict}
 use Rattle.refusal.specs.declared.Verdict.TheVariants.{Accepted, Rejected}
-use Rattle.refusal.specs.Answer.{number, number_of, Answer, Done}
+use Rattle.refusal.specs.Answer.{number, number_of, first_of, Answer, Done}
 use Rattle.refusal.specs.Verdict.{verdict_number}
 use Rattle.field.specs.declared.Level.{Level}
 use Rattle.key.specs.declared.Key.{Key}
@@ -73,6 +73,16 @@ named GroupsDiffer = refl
 -- refusals with one number are one
 pub same_number : (q r : Refusal) → number q ≡ number r → q ≡ r
 same_number q r e = sym (named q) ∙ ap of_number e ∙ named r
+
+-- an answer made of the first refusal of rows tells 0 only where no row applies
+pub zero-told : {A : Type 0} (tells : A → ℕ) (told : Answer → A) (rows : List (Bool × Refusal)) → ((q : Refusal) → tells (told (Err q)) ≡ number q) → {a : A} → a ≡ told (first_of rows) → tells a ≡ 0 → first_of rows ≡ Done
+zero-told tells told rows same e z = go (first_of rows) refl
+  where
+    go : (x : Answer) → first_of rows ≡ x → first_of rows ≡ Done
+    go (Ok u) d = d
+    go (Err q) d =
+        let none = sym (same q) ∙ sym (ap (λ x. tells (told x)) d) ∙ sym (ap tells e) ∙ z in
+        absurd (omega (arith, between q, none))
 
 -- what is put of an answer that comes with a number of its own is the outcome's
 pub put : {A B : Type 0} (or : A → B → ℕ × B) (a : A) (old : B) {s : List ℕ} {o : A × List ℕ} {r : ℕ} {k : B} → (r, k) ≡ or a old → (a, s) ≡ o → (r, (s, k)) ≡ answered or o old

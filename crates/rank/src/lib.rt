@@ -14,10 +14,7 @@ use refusal::{Answer, Refusal};
 pub fn number(answer: Result<usize, Refusal>) -> u32
     ensures { result ≡ number_of answer }
 {
-    match answer {
-        Ok(_) => 0,
-        Err(refusal) => refusal.number(),
-    }
+    refusal::number(answer)
 }
 
 // The first refusal that applies; Ok where none does.

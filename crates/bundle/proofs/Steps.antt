@@ -17,7 +17,7 @@ use Rattle.field.specs.Level.{FIRST, level_at}
 use Rattle.key.specs.declared.Key.{Key}
 use Rattle.layout.specs.Layout.{serial_row, proof_rows}
 use Rattle.layout.specs.Tests.{key_of, tests, after}
-use Rattle.layout.specs.Steps.{stepped, outcome}
+use Rattle.layout.specs.Steps.{stepped, outcome, further}
 use Rattle.layout.proofs.Rows.{step_next, first_stops, first_ends, head_passed, after-append}
 use Rattle.bundle.specs.declared.Contents.{Contents}
 use Rattle.bundle.specs.declared.Groups.{Groups}
@@ -63,6 +63,14 @@ module _ (key : Key) (s : List ℕ) (low at : ℕ) where
         let d = first_ends (serial_tests (level_at FIRST) key s low at) later end (sym e ∙ h) in
         ap (λ i. outcome (level_at FIRST) s i (proof_rows (level_at FIRST) key)) d.1
         ∙ ap₂ (λ (a : Answer) (i : ℕ). stepped a i) (sym d.0) (sym (after-append at (serial_row s at ∷ []) (proof_rows (level_at FIRST) key)))
+
+    pub group-further : {q : Result ℕ Refusal} → q ≡ further p (λ i. outcome (level_at FIRST) s i (proof_rows (level_at FIRST) key))
+        → q ≡ stepped (first_of (group_tests (level_at FIRST) key s low at)) (group_end (level_at FIRST) key s at)
+    group-further {q} f = pick p refl
+      where
+        pick : (r : Result ℕ Refusal) → p ≡ r → q ≡ stepped (first_of (group_tests (level_at FIRST) key s low at)) (group_end (level_at FIRST) key s at)
+        pick (Err r) h = f ∙ ap (λ z. further z (λ i. outcome (level_at FIRST) s i (proof_rows (level_at FIRST) key))) h ∙ sym h ∙ group-stops h
+        pick (Ok i) h = f ∙ ap (λ z. further z (λ i. outcome (level_at FIRST) s i (proof_rows (level_at FIRST) key))) h ∙ group-goes h
 
 -- the groups from a position on, by the step of the first
 module _ (key : Key) (s : List ℕ) where

@@ -75,8 +75,7 @@ fn read_group(s: &[u8], key: Key, at: usize, low: usize) -> Result<usize, Refusa
     requires { Sized (level_at FIRST) key }
     ensures { result ≡ stepped (first_of (group_tests (level_at FIRST) key s.now low at)) (group_end (level_at FIRST) key s.now at) }
 {
-    let at = read_serial(s, at, low)?;
-    layout::read_proof(s, key, at)
+    layout::read_proof(s, key, read_serial(s, at, low))
 }
 
 // The groups from a position to the end: how many they are, or the refusal.

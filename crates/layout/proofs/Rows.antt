@@ -1,7 +1,7 @@
 -- Laws of the tests that the readers run, for any rows.
 use Rattle.std.specs.Prelude.{Result, Ok, Err}
 use Rattle.std.specs.Result.{IsErrAnd}
-use mathlib.Core.Path.{◌≡◌, refl, sym, ap, ◌∙◌}
+use mathlib.Core.Path.{◌≡◌, refl, sym, ap, ap₂, ◌∙◌}
 use mathlib.Core.Bool.{Bool, false, cond}
 use mathlib.Core.List.{List, [], ◌∷◌, ◌++◌, append_assoc}
 use Prim.Native.Nat.{ℕ, ◌+◌, ◌-◌, ◌≤◌}
@@ -18,7 +18,7 @@ use Rattle.field.specs.declared.Level.{Level}
 use Rattle.layout.specs.declared.Row.{Row}
 use Rattle.layout.specs.Layout.{optional}
 use Rattle.layout.specs.Tests.{value_tests, row_tests, tests, after}
-use Rattle.layout.specs.Steps.{stepped, outcome}
+use Rattle.layout.specs.Steps.{stepped, outcome, further}
 
 -- none of some tests, and none of others
 pub none-append : (xs ys : List (Bool × Refusal)) → None (xs ++ ys) → None xs × None ys
@@ -89,6 +89,29 @@ module _ (xs ys : List (Bool × Refusal)) (p : ℕ) where
 
   pub first_ends : {at : ℕ} → stepped (first_of xs) p ≡ Ok at → (first_of (xs ++ ys) ≡ first_of ys) × (at ≡ p)
   first_ends e = let h = step_next (first_of xs) p e in (after-done xs ys h.0, h.1)
+
+-- rows after rows, by the step of the first; which they are may depend on the position where they start
+module _ (l : Level) (s : List ℕ) (at : ℕ) where
+  by_step : (rows : List Row) (others : ℕ → List Row) (r : Result ℕ Refusal) → outcome l s at rows ≡ r → further r (λ p. outcome l s p (others p)) ≡ outcome l s at (rows ++ others (after at rows))
+  by_step rows others (Ok p) e =
+      let more = others (after at rows) in
+      let h = first_ends (tests l s at rows) (tests l s (after at rows) more) (after at rows) e in
+      ap (λ q. outcome l s q (others q)) h.1
+      ∙ ap₂ (λ (a : Answer) (q : ℕ). stepped a q) (sym h.0 ∙ ap first_of (sym (tests-append l s at rows more))) (sym (after-append at rows more))
+  by_step rows others (Err r) e =
+      let more = others (after at rows) in
+      ap (λ a. stepped a (after at (rows ++ more))) (first_stops (tests l s at rows) (tests l s (after at rows) more) (after at rows) e ∙ ap first_of (sym (tests-append l s at rows more)))
+
+  pub outcome_then : (rows : List Row) (others : ℕ → List Row) {r q : Result ℕ Refusal} → r ≡ outcome l s at rows → q ≡ further r (λ p. outcome l s p (others p)) → q ≡ outcome l s at (rows ++ others (after at rows))
+  outcome_then rows others {r} e f = f ∙ by_step rows others r (sym e)
+
+  pub outcome_more : (rows others : List Row) {r q : Result ℕ Refusal} → r ≡ outcome l s at rows → q ≡ further r (λ p. outcome l s p others) → q ≡ outcome l s at (rows ++ others)
+  outcome_more rows others e f = outcome_then rows (λ p. others) e f
+
+-- the same where the fields before them end
+pub further_more : (l : Level) (s : List ℕ) (rows others : List Row) (p : Result ℕ Refusal) {r q : Result ℕ Refusal} → r ≡ further p (λ at. outcome l s at rows) → q ≡ further r (λ at. outcome l s at others) → q ≡ further p (λ at. outcome l s at (rows ++ others))
+further_more l s rows others (Ok at) e f = outcome_more l s at rows others e f
+further_more l s rows others (Err k) e f = f ∙ ap (λ r. further r (λ at. outcome l s at others)) e
 
 -- what the exit of a `?` answers
 pub exits : {T : Type 0} {q : Result T Refusal} {k : Refusal} → IsErrAnd q (λ x. x ≡ k) → q ≡ Err k

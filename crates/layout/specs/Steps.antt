@@ -15,6 +15,11 @@ stepped (Err r) end = Err r
 abbrev pub outcome : Level → List ℕ → ℕ → List Row → Result ℕ Refusal
 outcome l s at rows = stepped (first_of (tests l s at rows)) (after at rows)
 
+-- what follows a step: its refusal, or what is answered from its place on
+abbrev pub further : Result ℕ Refusal → (ℕ → Result ℕ Refusal) → Result ℕ Refusal
+further (Ok at) next = next at
+further (Err r) next = Err r
+
 -- rows that refuse nothing of the bytes and end with them
 pub record Whole (l : Level) (s : List ℕ) (rows : List Row) : Type 0 where
   pub accepted : first_of (tests l s 0 rows) ≡ Done

@@ -12,7 +12,7 @@ ghost use Rattle.layout.specs.declared.Row.{Row};
 ghost use Rattle.layout.specs.declared.Kind.TheVariants.{Target};
 ghost use Rattle.layout.specs.Layout.{serial_length, optional, serial_row, proof_rows, key_segment, group_rows, check_rows, leans, key_tests, key_end};
 ghost use Rattle.layout.specs.Tests.{key_at, zeros, long_serial, value_tests, row_tests, tests, end_tests, part_of};
-ghost use Rattle.layout.specs.Steps.{Whole, stepped, outcome};
+ghost use Rattle.layout.specs.Steps.{Whole, stepped, outcome, further};
 
 use elimination::MATRIX;
 use field::{FIRST, Level};
@@ -311,11 +311,12 @@ pub fn read_serial(s: &[u8], at: usize) -> Result<usize, Refusal>
     read_row(s, at, serial)
 }
 
-// t and a, from a position on: where they end, or the first refusal.
-pub fn read_proof(s: &[u8], key: Key, at: usize) -> Result<usize, Refusal>
+// t and a, where the fields before them end: where they end, or the first refusal.
+pub fn read_proof(s: &[u8], key: Key, step: Result<usize, Refusal>) -> Result<usize, Refusal>
     requires { Sized (level_at FIRST) key }
-    ensures { result ≡ outcome (level_at FIRST) s.now at (proof_rows (level_at FIRST) key) }
+    ensures { result ≡ further step (λ at. outcome (level_at FIRST) s.now at (proof_rows (level_at FIRST) key)) }
 {
+    let start = step?;
     let len = key.lengths(FIRST);
     let t = Row {
         tag: Row::T,
@@ -327,7 +328,7 @@ pub fn read_proof(s: &[u8], key: Key, at: usize) -> Result<usize, Refusal>
         len: 2 * len.proof,
         kind: Kind::Coordinates,
     };
-    let at = read_row(s, at, t)?;
+    let at = read_row(s, start, t)?;
     read_row(s, at, a)
 }
 
@@ -336,8 +337,7 @@ pub fn read_group(s: &[u8], key: Key, at: usize) -> Result<usize, Refusal>
     requires { Sized (level_at FIRST) key }
     ensures { result ≡ outcome (level_at FIRST) s.now at (group_rows (level_at FIRST) key s.now at) }
 {
-    let at = read_serial(s, at)?;
-    read_proof(s, key, at)
+    read_proof(s, key, read_serial(s, at))
 }
 
 // The fields that follow a package in a check file, from a position on: where they end, or the refusal.

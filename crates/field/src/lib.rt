@@ -171,7 +171,8 @@ impl Element {
         self.product::<NARROW>(other, FIRST)
     }
 
-    // The product, with a table of as many words as the level needs.
+    // The product, with a table of as many words as the level needs. Not inlined, so that a call takes the stack of one level's table alone.
+    #[inline(never)]
     fn product<const ROOM: usize>(self, other: Element, level: usize) -> Element
         requires { (room (level_at level) * (level_at level).width ≤ ROOM) × (ROOM ≤ 72) }
         ensures { (x y : (K (level_at level)).Carrier) → Holds (level_at level) self.words x → Holds (level_at level) other.words y → Holds (level_at level) result.words ((K (level_at level)).mul x y) }

@@ -62,7 +62,10 @@ fn refused(
     if !lengths(lent, t, q, delta, masks, alpha, a) {
         return Err(Refusal::SliceLength);
     }
-    lent.contents(FIRST)?;
+    // Not by `?`: the edit four_and_fifteen_passed_over changes what is answered here.
+    if let Err(refusal) = lent.contents(FIRST) {
+        return Err(refusal);
+    }
     let coordinates = field::excess(q, FIRST)
         | (field::excess(delta, FIRST)
             | (field::excess(masks, FIRST)

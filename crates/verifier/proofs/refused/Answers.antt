@@ -22,14 +22,13 @@ contents-requires c =
     let s = sizes-passed a.lent.now.key c.sizes.ensures c.in_ok-sizes.was in
     (s, (each_long (verify_lent (lengths (level_at FIRST) a.lent.now.key) (slices_of a.lent.now) a.t.now a.q.now a.delta.now a.masks.now a.alpha.now a.a.now) (search rules)).0, first-matrix a.lent.now.key s)
 
-pub returns-in_err-contents : goal.returns-in_err-contents
-returns-in_err-contents c =
+pub returns-in-Err : goal.returns-in-Err
+returns-in-Err c =
     let a = c.args in
     let s = a.lent.now in
     let whole : true ≡ long (verify_lent (lengths (level_at FIRST) s.key) (slices_of s) a.t.now a.q.now a.delta.now a.masks.now a.alpha.now a.a.now) = search rules in
-    let same : c.from_residual-in_err-contents.result ≡ c.contents.result = search rules in
-    same ∙ told-key (level_at FIRST) s.key _ (slices_of s) (below 1 a.t.now) (withins (level_at FIRST) (a.q.now ∷ a.delta.now ∷ a.masks.now ∷ a.alpha.now ∷ a.a.now ∷ [])) Column []
-    (sym c.sizes.ensures ∙ c.in_ok-sizes.was) 0 whole refl c.contents.ensures c.in_err-contents.was
+    sym c.in-Err.is ∙ told-key (level_at FIRST) s.key _ (slices_of s) (below 1 a.t.now) (withins (level_at FIRST) (a.q.now ∷ a.delta.now ∷ a.masks.now ∷ a.alpha.now ∷ a.a.now ∷ [])) Column []
+    (sym c.sizes.ensures ∙ c.in_ok-sizes.was) 0 whole refl c.contents.ensures c.in-Err.is
 
 pub returns : goal.returns
 returns c =
